@@ -1,5 +1,6 @@
 -- The frame at the base of an attempt is that of the section's method.
-use Rattle.std.{proofs.Common.{◌≡◌, ℕ, zero, suc, ◌+◌, ◌-◌, ◌<◌, List, [], ◌∷◌, length, take, drop, Option, Some, None, refl, sym, ap, ◌∙◌, subst, inl, inr, arith, ◌⊎◌}, specs.List.AllZip}
+use Rattle.lists.proofs.ListLaws.{same_some}
+use Rattle.std.{proofs.Common.{◌≡◌, ℕ, zero, suc, ◌+◌, ◌-◌, ◌<◌, List, [], ◌∷◌, length, take, drop, Some, None, refl, sym, ap, ◌∙◌, subst, inl, inr, arith, ◌⊎◌}, specs.List.AllZip}
 use Rattle.checked_program.specs.{MarkedProgram.MarkedProgram, SectionLaws.{Part, AreParts}, declared.section.Mode.Mode}
 use Rattle.machine_types.specs.{Standing.tags_of, Structure.{AttemptStandsIn, Finishes, RunsSection, IsPart, frames_inside, section_of}, Threads.{Frame, Attempt}, declared.phase.Phase.Phase}
 use Rattle.laws_threads.specs.AttemptLaws.{IsOnBase, AttemptsAreBased}
@@ -11,9 +12,6 @@ pub record IsBehind (count method : ℕ) (fs : List Frame) : Type 0 where
   pub there : drop count fs ≡ frame ∷ below
   pub is_method : method ≡ frame.method
 
-further : (count method : ℕ) (f : Frame) (fs : List Frame) → IsBehind count method fs → IsBehind (suc count) method (f ∷ fs)
-further count method f fs b = record { frame = b.frame; below = b.below; there = b.there; is_method = b.is_method }
-
 module _ (c : MarkedProgram) (a : Attempt) where
   in_section : (count : ℕ) (fs : List Frame) (parts : List Part) (mode : Mode) → count < length fs → AllZip (IsPart c) (take (suc count) fs) parts → AreParts c.program (tags_of c) (section_of a) a.entry.receiver parts mode → IsBehind count a.entry.method fs
   in_section count [] parts mode l z p = absurd (omega (arith, l))
@@ -23,7 +21,7 @@ module _ (c : MarkedProgram) (a : Attempt) where
   in_section (suc count) (f ∷ fs) [] mode l z p = absurd p
   in_section (suc count) (f ∷ []) (x ∷ parts) mode l z p = absurd (omega (arith, l))
   in_section (suc count) (f ∷ g ∷ fs) (x ∷ []) mode l z p = absurd z.1
-  in_section (suc count) (f ∷ g ∷ fs) (x ∷ y ∷ parts) mode l z p = further count a.entry.method f (g ∷ fs) (in_section count (g ∷ fs) (y ∷ parts) p.0 (omega (arith, l)) z.1 p.1)
+  in_section (suc count) (f ∷ g ∷ fs) (x ∷ y ∷ parts) mode l z p = let b = in_section count (g ∷ fs) (y ∷ parts) p.0 (omega (arith, l)) z.1 p.1 in record { frame = b.frame; below = b.below; there = b.there; is_method = b.is_method }
 
   when_finished : (count : ℕ) (fs : List Frame) (frame : Frame) → count < length fs → take (suc count) fs ≡ frame ∷ [] → frame.method ≡ a.entry.method → IsBehind count a.entry.method fs
   when_finished count [] frame l e m = absurd (omega (arith, l))
@@ -43,8 +41,7 @@ module _ (c : MarkedProgram) (a : Attempt) where
       either count e (inr x) = in_section count fs x.0 x.1 (omega (arith, e)) (subst (λ (n : ℕ). AllZip (IsPart c) (take n fs) x.0) e x.2) x.3
 
 pub are_based : AttemptsAreBased
-are_based c was s a structured e = by_attempt s.attempt e structured.attempt
-  where
-    by_attempt : (o : Option Attempt) → o ≡ Some a → AttemptStandsIn c was s.frames s.held o → IsOnBase a s.frames
-    by_attempt None e k = absurd (cc)
-    by_attempt (Some b) e k = let same : b ≡ a = cc in subst (λ (x : Attempt). IsOnBase x s.frames) same (based c b was s.frames k.based k.frames)
+are_based c was s a structured e = (elim s.attempt as (λ o. o ≡ Some a → AttemptStandsIn c was s.frames s.held o → IsOnBase a s.frames) [
+  | None ↦ λ e k. absurd (cc)
+  | Some b ↦ λ e k. subst (λ (x : Attempt). IsOnBase x s.frames) (same_some e) (based c b was s.frames k.based k.frames)
+]) e structured.attempt

@@ -2,7 +2,7 @@
 use Rattle.std.proofs.Common.{◌≡◌, ℕ, ◌+◌, ◌<◌, ◌≤◌, true, List, [], ◌∷◌, ◌++◌, length, Option, Some, None, refl, sym, subst, ap, ◌∙◌, arith, length-append, option_map, slice_get, IfSome, IsSome}
 use Rattle.std.{specs.List.AllByRecursion, proofs.lemmas.Bool.Decides.nat_tests}
 use Rattle.jvm_types.specs.declared.{outcome.{Print.Print, Thrown.Thrown}, program.{MethodInfo.MethodInfo, Program.Program}}
-use Rattle.machine_types.specs.{Bounds.{KeptFits, EntryFits, IsInner, IsBounded}, Elision.{put_back, fails}, Frames.{Top, frames_of}, Going.{with_phase, goes_on}, HeldMonitors.{held_at, depth_at}}
+use Rattle.machine_types.specs.{Bounds.{KeptFits, EntryFits, IsInner, IsBounded}, Elision.{put_back, fails}, Frames.{Top, frames_of}, Going.{with_phase, goes_on}, HeldMonitors.{held_at}}
 use Rattle.machine_types.specs.{Instructions.{has_print_left, begun, printed}, Ints.int_of, Onward.{Onward, Running, Throwing, Entering, Leaving, RootReturned, Uncaught, called, done}}
 use Rattle.machine_types.specs.{ReadyObjects.thrown_of, Threads.{Frame, Attempt, Thread}, Words.header_class, declared.effect.Effect.Effect}
 use Rattle.machine_types.specs.declared.{effect.Effect.TheVariants.{Raises, Calls, Stuck}, lock.{Held.Held, Kept.Kept}, phase.Phase.Phase}
@@ -16,15 +16,11 @@ use Rattle.laws_threads.proofs.ThreadMove as moves
 pub inside : (o i : ℕ) (attempt : Option Attempt) (a : Attempt) → attempt ≡ Some a → by_attempt o i attempt ≡ i
 inside o i attempt a e = ap (by_attempt o i) e
 
--- a monitor that is not held has no depth
-no_depth : (held : List Held) (m instructions : ℕ) → held_at held m ≡ None → IfSome (depth_at held m) (λ depth. depth < instructions)
-no_depth held m instructions e = subst (λ (o : Option Held). IfSome (option_map (λ (h : Held). h.depth) o) (λ depth. depth < instructions)) (sym e) tt
-
 pub attempt_fails : (p : Program) (s : Thread) (a : Attempt) → s.attempt ≡ Some a → held_at s.held a.monitor ≡ None → Fit p s → Spends s 0 2 → IsBounded p (fails s a)
 attempt_fails p s a e none f k =
     let after : Thread = record s { frames = put_back a s.frames; attempt = None; counts = record s.counts { failed = s.counts.failed + 1 } } in
     bounded p after (phases.Enter a.monitor a.number) (record { limits = f.limits; held = f.held; tried = record { noted = tt; inner = tt } }) tt f.limits.few_turns f.limits.few_steps tt
-    (no_depth s.held a.monitor s.counts.instructions none, tt)
+    (subst (λ (o : Option Held). IfSome (option_map (λ (h : Held). h.depth) o) (λ depth. depth < s.counts.instructions)) (sym none) tt, tt)
     (record { few = let few = k.few in let two = inside 0 2 s.attempt a e in omega arith })
 
 -- ---- an instruction is begun
@@ -51,7 +47,7 @@ inner_below : (attempt : Option Attempt) (m n : ℕ) → IfSome attempt (λ a. a
 inner_below None m n h = tt
 inner_below (Some a) m n h = λ e. omega arith
 
-one_more : (attempt : Option Attempt) → by_attempt 1 2 attempt ≡ by_attempt 0 1 attempt + 1
+pub one_more : (attempt : Option Attempt) → by_attempt 1 2 attempt ≡ by_attempt 0 1 attempt + 1
 one_more None = refl
 one_more (Some a) = refl
 
@@ -74,14 +70,16 @@ module _ (p : Program) where
   pub calm : (s : Thread) → Spends s 1 2 → Spends s 0 2
   calm s k = spends_less s 1 2 0 2 k (omega arith) (omega arith)
 
+  -- its turns are counted anew
+  anew : (s : Thread) (fs : List Frame) → Fit p s → Fit p (record s { frames = fs; turns = 0 })
+  anew s fs f =
+      let l = f.limits in
+      record { limits = record { number_fits = l.number_fits; few_prints = l.few_prints; few_turns = (let few = l.few_turns in omega arith); few_steps = l.few_steps }; held = f.held; tried = f.tried }
+
   pub goes_any : (s : Thread) (o : Onward) → Begins p s → IsBounded p (goes_on s o)
   goes_any s (Running fs) b = goes p s (Running fs) tt b.fit (calm s b.spends)
   goes_any s (Throwing x class fs) b = goes p s (Throwing x class fs) tt b.fit (calm s b.spends)
-  goes_any s (Entering m fs) b =
-      let limits = b.fit.limits in
-      let turns : 0 < s.cfg.turns = let few = limits.few_turns in omega arith in
-      let none : LimitsFit p s.number s.cfg 0 s.counts.instructions s.prints = record { number_fits = limits.number_fits; few_prints = limits.few_prints; few_turns = turns; few_steps = limits.few_steps } in
-      bounded p (record s { frames = fs; turns = 0 }) (phases.Enter m 0) (record { limits = none; held = b.fit.held; tried = b.fit.tried }) tt turns limits.few_steps tt (b.entries m 0) (record { few = b.spends.few })
+  goes_any s (Entering m fs) b = let f = anew s fs b.fit in bounded p (record s { frames = fs; turns = 0 }) (phases.Enter m 0) f tt f.limits.few_turns f.limits.few_steps tt (b.entries m 0) (record { few = b.spends.few })
   goes_any s (Leaving m a fs) b = goes p s (Leaving m a fs) tt b.fit (calm s b.spends)
   goes_any s RootReturned b = goes p s RootReturned tt b.fit (calm s b.spends)
   goes_any s (Uncaught class) b = goes p s (Uncaught class) tt b.fit (calm s b.spends)
@@ -110,24 +108,10 @@ module _ (p : Program) where
   refit s fs f = record { limits = f.limits; held = f.held; tried = f.tried }
 
   pub waited : (s : Thread) (fs : List Frame) (m : ℕ) (kept : Kept) (now : Phase) → WaitsFrom m kept now → Begins p s → KeptFits kept → IsBounded p (record s { frames = fs; phase = now; turns = 0 })
-  waited s fs m kept now k b fits = by_kept kept now k fits
-    where
-      turns : 0 < s.cfg.turns
-      turns = let few = b.fit.limits.few_turns in omega arith
-
-      fit : Fit p (record s { frames = fs; turns = 0 })
-      fit = record {
-        limits = record { number_fits = b.fit.limits.number_fits; few_prints = b.fit.limits.few_prints; few_turns = turns; few_steps = b.fit.limits.few_steps };
-        held = b.fit.held;
-        tried = b.fit.tried;
-      }
-
-      few : s.counts.elided + s.counts.failed + s.counts.locked + by_attempt 0 2 s.attempt ≤ s.counts.instructions
-      few = let k = calm s b.spends in k.few
-
-      by_kept : (kept : Kept) (now : Phase) → WaitsFrom m kept now → KeptFits kept → IsBounded p (record s { frames = fs; phase = now; turns = 0 })
-      by_kept _ _ (moves.grows_first count) fits = bounded p (record s { frames = fs; turns = 0 }) (phases.Grow m towards.Wait) fit tt turns b.fit.limits.few_steps tt tt (record { few = few })
-      by_kept _ _ (moves.waits_fat r) fits = bounded p (record s { frames = fs; turns = 0 }) (phases.WaitBit m r) fit fits turns b.fit.limits.few_steps tt tt (record { few = few })
+  waited s fs m _ _ (moves.grows_first count) b fits =
+      let f = anew s fs b.fit in bounded p (record s { frames = fs; turns = 0 }) (phases.Grow m towards.Wait) f tt f.limits.few_turns f.limits.few_steps tt tt (record { few = let k = calm s b.spends in k.few })
+  waited s fs m _ _ (moves.waits_fat r) b fits =
+      let f = anew s fs b.fit in bounded p (record s { frames = fs; turns = 0 }) (phases.WaitBit m r) f fits f.limits.few_turns f.limits.few_steps tt tt (record { few = let k = calm s b.spends in k.few })
 
   pub asked : (s : Thread) (fs : List Frame) (m : ℕ) (kept : Kept) (now : Phase) → Asks m kept now → Begins p s → KeptFits kept → IsBounded p (record s { frames = fs; phase = now })
   asked s fs m _ _ (moves.looks_who r) b fits = bounded p (record s { frames = fs }) (phases.NotifyLook m r) (refit s fs b.fit) fits b.fit.limits.few_turns b.fit.limits.few_steps tt tt (record { few = let k = calm s b.spends in k.few })

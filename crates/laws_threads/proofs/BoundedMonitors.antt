@@ -5,7 +5,7 @@ use Rattle.jvm_types.specs.declared.{fixed_words.TheConstants.MONITOR_RECORDS, l
 use Rattle.machine_types.specs.{Bounds.{KeptFits, IsInner, IsBounded}, Elision.elided, FoundWords.{HasCount, most_count}, Going.{with_phase, runs, goes_after}}
 use Rattle.machine_types.specs.{HeldMonitors.{held_at, with_held, without_held, deeper, shallower}, LockWords.{lock_by, lock_of, is_lock_by, is_lock_word}, Monitors.{takes, lets_go, retakes, grown}}
 use Rattle.machine_types.specs.{Structure.IsFlat, Threads.{Frame, Attempt, Thread}, declared.{lock.{Held.Held, Kept.Kept, LockWord.LockWord}, phase.{After.After, Phase.Phase, Toward.Toward}}}
-use Rattle.laws_threads.proofs.{BoundedInstructions.inside, BoundedOnward.{Fit, by_attempt, Spends, spends_less, bounded, running, goes_behind}}
+use Rattle.laws_threads.proofs.{BoundedInstructions.{inside, one_more}, BoundedOnward.{Fit, Spends, spends_less, bounded, running, goes_behind}}
 use Rattle.laws_threads.proofs.{HeldBounds.{HeldFit, each_put, each_without, found, flat, flat_put, flat_without, flat_refit, flat_at_most_one}, ThreadMove.begun_attempt}
 use Rattle.machine_types.specs.declared.lock.Kept.TheVariants as keeps
 use Rattle.machine_types.specs.declared.lock.LockWord.TheVariants as locks
@@ -59,32 +59,24 @@ without_fits m held instructions inflated locked f = record {
 pub at_found : (P : Held → Type 0) (o : Option Held) (h : Held) → o ≡ Some h → IfSome o P → P h
 at_found P o h e all = subst (λ (x : Option Held). IfSome x P) e all
 
-at_least : (attempt : Option Attempt) → 1 ≤ by_attempt 1 2 attempt
-at_least None = omega arith
-at_least (Some a) = omega arith
-
 module _ (p : Program) where
   -- ---- a lock is taken
 
   pub taken : (s : Thread) (m : ℕ) (kept : Kept) → Fit p s → Spends s 1 2 → KeptFits kept → IsBounded p (takes s m kept)
   taken s m kept f k fits =
       let e : Held = record { monitor = m; kept = kept; depth = 1 } in
-      let some : 1 ≤ by_attempt 1 2 s.attempt = at_least s.attempt in
+      let more = one_more s.attempt in
       let one : 1 ≤ s.counts.instructions = let few = k.few in omega arith in
       let held : HeldFit (with_held e s.held) s.counts.instructions s.counts.inflated (s.counts.locked + 1) = put_fits e s.held s.counts.instructions s.counts.inflated s.counts.locked 1 f.held fits one (flat_at_most_one e) in
       running p (record s { held = with_held e s.held; counts = record s.counts { locked = s.counts.locked + 1 } }) (record { limits = f.limits; held = held; tried = f.tried })
-      (record { few = let few = k.few in let less = one_less s.attempt in omega arith })
-    where
-      one_less : (attempt : Option Attempt) → by_attempt 0 1 attempt + 1 ≡ by_attempt 1 2 attempt
-      one_less None = refl
-      one_less (Some a) = refl
+      (record { few = let few = k.few in omega arith })
 
   -- ---- an attempt begins
 
   pub began : (s : Thread) (m noted number : ℕ) (f : Frame) (below : List Frame) → Fit p s → Spends s 1 2 → noted < most_count → IsBounded p (runs (record s { attempt = Some (begun_attempt m noted number f below) }))
   began s m noted number x below f k fits =
       running p (record s { attempt = Some (begun_attempt m noted number x below) }) (record { limits = f.limits; held = f.held; tried = record { noted = fits; inner = omega arith } })
-      (record { few = let few = k.few in let some = at_least s.attempt in omega arith })
+      (record { few = let few = k.few in let more = one_more s.attempt in omega arith })
 
   -- ---- entry
 

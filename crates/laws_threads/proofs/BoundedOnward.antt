@@ -3,11 +3,11 @@ use Rattle.std.proofs.Common.{◌≡◌, ℕ, ◌+◌, ◌<◌, ◌≤◌, nat_l
 use Rattle.std.proofs.lemmas.Bool.Decides.{nat_tests}
 use Rattle.jvm_types.specs.{Members.is_synchronized, declared.{outcome.{Print.Print, Thrown.Thrown}, program.{Program.Program, Row.Row}}}
 use Rattle.machine_types.specs.{Bounds.{PhaseFits, TurnsFit, StepsFit, WaitFits, EntryFits, entry_under_way, attempt_under_way, under_way, IsBounded}, FoundWords.most_count}
-use Rattle.machine_types.specs.{Frames.{Top, top_of, frames_of, monitor_of, returned}, Going.{with_phase, runs, failed_turn, goes_on, goes_on_if, goes_after, root_over}}
+use Rattle.machine_types.specs.{Frames.{Top, top_of, frames_of, monitor_of, returned}, Going.{with_phase, runs, failed_turn, goes_on, goes_on_if, goes_after}}
 use Rattle.machine_types.specs.{Onward.{Onward, Running, Throwing, Entering, Leaving, RootReturned, Uncaught, back, unwound, handed, after}, Threads.{Frame, Attempt, Thread}}
 use Rattle.machine_types.specs.declared.{config.Config.Config, phase.{After.After, Phase.Phase}}
 use Rattle.laws_threads.proofs.HeldBounds.{HeldFit}
-use Rattle.laws_threads.proofs.ThreadMove.{if_either, if_mapped}
+use Rattle.laws_threads.proofs.ThreadMove.{if_either, if_mapped, over_to}
 use Rattle.laws_threads.proofs.Tests.{either_way}
 use Rattle.jvm_types.specs.declared.outcome.End.TheVariants as ends
 use Rattle.machine_types.specs.declared.phase.After.TheVariants as afters
@@ -124,14 +124,11 @@ module _ (p : Program) where
   goes s (Throwing x class fs) n f k = bounded (record s { frames = fs }) (phases.Throw x class) (record { limits = f.limits; held = f.held; tried = f.tried }) tt f.limits.few_turns f.limits.few_steps tt tt (record { few = k.few })
   goes s (Entering m fs) n f k = absurd n
   goes s (Leaving m a fs) n f k = bounded (record s { frames = fs }) (phases.Leave m a) (record { limits = f.limits; held = f.held; tried = f.tried }) tt f.limits.few_turns f.limits.few_steps tt tt (record { few = k.few })
-  goes s RootReturned n f k = by_roots s.roots
-    where
-      less : Spends s 0 1
-      less = spends_less s 0 2 0 1 k (omega arith) (omega arith)
-
-      by_roots : (roots : List ℕ) → IsBounded p (record s { frames = []; phase = root_over roots })
-      by_roots [] = bounded (record s { frames = [] }) (phases.Ending ends.Returned) (record { limits = f.limits; held = f.held; tried = f.tried }) tt f.limits.few_turns f.limits.few_steps tt tt (record { few = less.few })
-      by_roots (root ∷ roots) = bounded (record s { frames = [] }) phases.Start (record { limits = f.limits; held = f.held; tried = f.tried }) tt f.limits.few_turns f.limits.few_steps tt tt (record { few = k.few })
+  goes s RootReturned n f k =
+      let g : Fit p (record s { frames = [] }) = record { limits = f.limits; held = f.held; tried = f.tried } in
+      over_to (λ phase. IsBounded p (record s { frames = []; phase = phase })) s.roots
+      (λ e. bounded (record s { frames = [] }) (phases.Ending ends.Returned) g tt f.limits.few_turns f.limits.few_steps tt tt (record { few = let less = spends_less s 0 2 0 1 k (omega arith) (omega arith) in less.few }))
+      (λ number rest e. bounded (record s { frames = [] }) phases.Start g tt f.limits.few_turns f.limits.few_steps tt tt (record { few = k.few }))
   goes s (Uncaught class) n f k = bounded (record s { frames = [] }) (phases.Ending (ends.Uncaught class)) (record { limits = f.limits; held = f.held; tried = f.tried }) tt f.limits.few_turns f.limits.few_steps tt tt
       (record { few = let less = spends_less s 0 2 0 1 k (omega arith) (omega arith) in less.few })
 
@@ -140,10 +137,6 @@ module _ (p : Program) where
   goes_if s (Some o) n b f k = goes s o n f k
 
   -- ---- returns and exceptions enter nothing
-
-  pub back_enters_none : (fs : List Frame) → EntersNone (back fs)
-  back_enters_none [] = tt
-  back_enters_none (f ∷ fs) = tt
 
   pub unwound_enters_none : (x : ℕ) (class : Thrown) (fs : List Frame) → EntersNone (unwound x class fs)
   unwound_enters_none x class [] = tt
@@ -155,7 +148,7 @@ module _ (p : Program) where
 
   after_enters_none : (fs : List Frame) (a : After) → IfSome (after p fs a) EntersNone
   after_enters_none fs afters.Next = tt
-  after_enters_none fs afters.Return = if_mapped EntersNone (top_of p fs) (λ at. back (returned p at)) (λ at. back_enters_none (returned p at))
+  after_enters_none fs afters.Return = if_mapped EntersNone (top_of p fs) (λ at. back (returned p at)) (λ at. elim (returned p at) as (λ fs. EntersNone (back fs)) [ [] ↦ tt | f ∷ fs ↦ tt ])
   after_enters_none fs (afters.Unwind x class) = unwound_enters_none x class (drop 1 fs)
 
   pub goes_behind : (s : Thread) (a : After) → IsBounded p s → Fit p s → Spends s 0 2 → IsBounded p (goes_after p s a)

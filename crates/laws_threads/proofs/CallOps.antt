@@ -1,8 +1,7 @@
 -- The frame that a call enters has the receiver that stood below the arguments; the monitor of a synchronized method that a
 -- section calls is the section's.
 use Rattle.std.proofs.lemmas.Option.{get_or_from_slice_get}
-use Rattle.std.proofs.Common.{◌≡◌, ℕ, Option, zero, suc, Bool, true, false, List, [], ◌∷◌, ◌++◌, length, reverse, take, Some, refl, sym, ap, ◌∙◌, subst, slice_get, slice_index, if◌then◌else◌}
-use Rattle.std.proofs.lemmas.List.{reverse-append}
+use Rattle.std.proofs.Common.{◌≡◌, ℕ, Option, suc, Bool, true, false, List, length, reverse, take, Some, sym, ap, ◌∙◌, subst, slice_get, slice_index, if◌then◌else◌}
 use Rattle.lists.proofs.ListLaws.{same_some}
 use Rattle.jvm_types.specs.{ClassNames.file_of_class, CodeTable.{virtual_row, special_row, static_row}, Members.{MethodSite, is_static, is_synchronized}}
 use Rattle.jvm_types.specs.declared.{call.Call.{Call, TheVariants.{Virtual, Special, Static}}, code.Op.Op, op_row.OpRow.OpRow, program.{MethodInfo.MethodInfo, Program.Program, Target.Target}}

@@ -1,15 +1,15 @@
 -- The frame that a call makes has the types of the called method's start.
+use Rattle.std.proofs.lemmas.Bool.{cond_both}
 use Rattle.std.proofs.Common.{◌≡◌, ℕ, zero, suc, ◌-◌, ◌<◌, ◌≤◌, ◌⊎◌, inl, inr, Bool, true, false, List, [], ◌∷◌, ◌++◌, length, Some, ap, sym, subst, ◌∙◌, arith, slice_get, map, reverse, take, replicate, if◌then◌else◌}
 use Rattle.std.{specs.List.AllZip, proofs.lemmas.List.{reverse-append, length-append}}
 use Rattle.jvm_types.specs.{CodeTable.{want_of, type_of, arguments, is_init}, Members.is_static, Types.{TypeFrame, filled, receiver_types}, declared.op_row.{OpRow.OpRow, Want.Want}}
-use Rattle.jvm_types.{specs.declared.{program.{Kind.Kind, MethodInfo.MethodInfo}, typing.{Typing.Typing, VType.{VType, TheVariants.{Ref, This, Top}}}}, proofs.{ScopeLaws.zip_append, TypeOrder.subclass_self}}
+use Rattle.jvm_types.{specs.declared.{program.{Kind.Kind, MethodInfo.MethodInfo}, typing.{VType.{VType, TheVariants.{Ref, This, Top}}}}, proofs.{ScopeLaws.zip_append, TypeOrder.subclass_self}}
 use Rattle.laws_programs.proofs.ClassTreeLaws.{files_alone}
-use Rattle.checked_program.specs.{CheckedLaws.receiver_want, LockTags.entry_tags, MarkedProgram.{MarkedProgram, IsMarked, checked_part}, Tagging.IsTaggingOf, declared.tag.Tags.Tags}
-use Rattle.checked_program.proofs.CheckedPlaces.{checked_sound}
+use Rattle.checked_program.specs.{CheckedLaws.receiver_want, LockTags.entry_tags, MarkedProgram.{MarkedProgram, IsMarked}}
 use Rattle.laws_sections.proofs.HiddenThis.{long_arguments}
 use Rattle.machine_types.specs.{Frames.entry_frame, Typed.{Classes, Holds, FrameHolds}}
 use Rattle.laws_threads.{specs.Allowed.{WantHolds, TakenHold}, proofs.{Calls.{CallRow, HasReceiver, deepest_first}, Landing.land, MarkedMethods.method_at}}
-use Rattle.laws_threads.proofs.{Lists.{zip_has, map_at, zip_length, zip_reverse, reverse_map}, Values.ValuesHold}
+use Rattle.laws_threads.proofs.{Lists.{zip_length, zip_reverse, reverse_map}, Values.ValuesHold}
 use Rattle.jvm_types.specs.Types as types
 use Rattle.jvm_types.specs.declared.program.Kind.TheVariants as kinds
 
@@ -65,13 +65,9 @@ module _ (m : MethodInfo) (is : Classes) where
     instance_values number v args s k zip = record {
       stack = tt;
       locals = subst (λ (b : Bool). AllZip (Holds called is) (filled called.max_locals ((if b then [] else (if is_init called then This else Ref called.class) ∷ []) ++ map type_of called.args)) ((v ∷ args) ++ replicate (called.max_locals - length (v ∷ args)) 0))
-          (sym s) (locals_filled ((if is_init called then This else Ref called.class) ∷ map type_of called.args) (v ∷ args) (typed (is_init called), zip));
+          (sym s) (locals_filled ((if is_init called then This else Ref called.class) ∷ map type_of called.args) (v ∷ args) (cond_both (is_init called) This (Ref called.class) (λ t. Holds called is t v) (λ e. k) (λ e. inr (called.class, k, subclass_self called.class)), zip));
       receiver = λ e. subst (λ (b : Bool). is called.class (if b then 0 else v)) (sym s) k;
     }
-      where
-        typed : (b : Bool) → Holds called is (if b then This else Ref called.class) v
-        typed true = k
-        typed false = inr (called.class, k, subclass_self called.class)
 
     -- ---- a call
 

@@ -1,5 +1,5 @@
 -- Who goes on behind a return, and who catches an exception.
-use Rattle.std.proofs.Common.{◌≡◌, ℕ, zero, suc, ◌+◌, ◌-◌, ◌<◌, ◌≤◌, inl, inr, Bool, true, false, ◌||◌, ◌&&◌, List, [], ◌∷◌, length, Option, Some, None, refl, ap, sym, subst, ◌∙◌, arith, ◌==◌, nat_lt, slice_get, drop, if◌then◌else◌}
+use Rattle.std.proofs.Common.{◌≡◌, ℕ, zero, suc, ◌<◌, ◌≤◌, inl, inr, Bool, true, false, ◌||◌, ◌&&◌, List, [], ◌∷◌, length, Option, Some, None, refl, ap, sym, subst, ◌∙◌, arith, ◌==◌, slice_get, drop, if◌then◌else◌}
 use Rattle.std.{specs.List.{AllByRecursion, filter}, proofs.lemmas.{Bool.Decides.nat_tests, List.length-drop}}
 use Rattle.lists.proofs.ListLaws.{same_some}
 use Rattle.jvm_types.specs.{ClassTree.is_subclass, CodeTable.result_of, ProgramInvariant.site_in, Verifying.{edges, covers, catch_fault, frame_at_handler, FrameFits}, declared.code.{Insn.Insn, Op.Op}}

@@ -1,13 +1,13 @@
 -- What an instruction does keeps the types of its thread's frames, whatever its effect.
 use Rattle.std.proofs.lemmas.Bool.{cond_both}
-use Rattle.std.proofs.Common.{◌≡◌, ℕ, ◌<◌, inl, Bool, true, false, List, ◌∷◌, length, Option, Some, None, refl, sym, subst, arith, slice_get, drop, option_map, if◌then◌else◌}
+use Rattle.std.proofs.Common.{◌≡◌, ℕ, ◌<◌, inl, Bool, List, ◌∷◌, length, Option, Some, None, refl, sym, subst, arith, slice_get, drop, option_map, if◌then◌else◌}
 use Rattle.jvm_types.specs.{ClassNames.file_of_class, Members.{is_static, is_synchronized, MethodSite}, ProgramInvariant.site_in, Verifying.edges, declared.class_numbers.TheConstants.CLASS_ITSELF}
 use Rattle.jvm_types.specs.declared.{code.Op.Op, op_row.OpRow.OpRow, outcome.Thrown.Thrown, program.{MethodInfo.MethodInfo, Program.Program, Target.Target}}
 use Rattle.laws_programs.specs.TargetLaws.{HasRow}
 use Rattle.checked_program.specs.{MarkedProgram.{MarkedProgram, IsMarked}, Marks.called_method, TaggedCode.row_of}
 use Rattle.machine_types.specs.{Effects.effect, Frames.{first_or_null, monitor_of, effect_at, frame_on, went, went_on, waiting, has_room, entry_frame, arguments_of}}
 use Rattle.machine_types.specs.{Onward.{Running, Throwing, Entering, threw, entered, called, done}, ReadyObjects.{class_of, thrown_of}, Threads.Frame}
-use Rattle.machine_types.specs.{Typed.{Classes, FrameHolds, HoldBelow, FramesHold, IsObject}, Words.{class_object, header_class, header_length}, declared.effect.Effect.Effect}
+use Rattle.machine_types.specs.{Typed.{Classes, FrameHolds, HoldBelow, FramesHold, IsObject}, Words.{header_class, header_length}, declared.effect.Effect.Effect}
 use Rattle.machine_types.specs.declared.effect.Effect.TheVariants.{Goes, Throws, Reads, Writes, Measures, Raises, Prints, Calls, Returns, Enters, Leaves}
 use Rattle.laws_threads.{specs.Allowed.{OneOf, HasRowTypes, IsByMachine, Allowed}, proofs.{CalledEntries.{call_values, enters}, Calls.{call_row, call_receiver}, Landing.rules_at}}
 use Rattle.laws_threads.proofs.{Onwards.{Keeps, keeps_all, keeps_top, keeps_push, HasObjects, FoundHolds, Onwards, IfOnwards, goes_out}, Standings.top_here, ThreadMove.if_either, TopEffects.taken_here, TypedMoves.{goes, waits}}

@@ -87,7 +87,7 @@ module _ (c : MarkedProgram) (is : IsMarked c) where
   moved f own top to made free edge = either_way (λ (b : Bool). is_dup top.stands.insn.op ≡ b → Shows c Whole (frame_on (the_row f top.stands) to made f) own) (is_dup top.stands.insn.op)
       (λ e. doubled f own top to made (dup_is top.stands.insn.op e) edge)
       (λ e. by_row f own top to made (subst (λ (g : TagShape). EdgeFits IsShapeBelow top.stands.method.code top.stands.at.frames g to)
-          (plain_after top.stands.insn.pc (the_row f top.stands) top.stands.insn.op top.stands.tags.stack top.stands.tags free e) (edge_fits f top.stands to edge))) refl
+      (plain_after top.stands.insn.pc (the_row f top.stands) top.stands.insn.op top.stands.tags.stack top.stands.tags free e) (edge_fits f top.stands to edge))) refl
 
   -- ---- a new object
 

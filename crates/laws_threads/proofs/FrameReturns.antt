@@ -179,7 +179,7 @@ returns_law c fs shown at is e s g =
     (λ f below own rest top b g.
     let fits = subst (effects.Fits c.program top.stands.method top.stands.insn top.stands.target f.stack) g (fits_at c is f below top.stands) in
     left c is Whole Whole is_return f below own rest top (returned c.program (top_by c is f below top.stands)) (first_true (is_return top.stands.insn.op) _ fits.0) fits.0
-        (returned_show c is f below rest top.stands b fits.0 fits.1)) fs shown at e s g
+    (returned_show c is f below rest top.stands b fits.0 fits.1)) fs shown at e s g
 
 pub return_behind_law : ReturnsBehindRelease
 return_behind_law c fs shown at m is e s h l =

@@ -2,10 +2,10 @@
 use Rattle.std.proofs.Common.{◌≡◌, ℕ, ◌+◌, List, [], ◌∷◌, Option, Some, None, refl, sym, ap, ◌∙◌, arith}
 use Rattle.jvm_types.specs.CodeTable.{can_throw}
 use Rattle.checked_program.specs.MarkedProgram.{MarkedProgram}
-use Rattle.machine_types.specs.{Frames.pushed, Going.{root_over, goes_on}, Onward.{Onward, Running, Throwing, Entering, Leaving, RootReturned, Uncaught, back, unwound}, Shown.Show, Standing.{Operands, Whole, Thrown}}
+use Rattle.machine_types.specs.{Frames.pushed, Going.{goes_on}, Onward.{Onward, Running, Throwing, Entering, Leaving, RootReturned, Uncaught, back, unwound}, Shown.Show, Standing.{Operands, Whole, Thrown}}
 use Rattle.machine_types.specs.Structure.{HasFrame, TopIs, TopEnters, AfterShows, AreHeldOnce, AttemptStands, AttemptStandsIn, count_in, held_depth, tried_depth, entries_left, operands_after}
 use Rattle.machine_types.specs.{Threads.{Frame, Attempt, Thread}, declared.{lock.Held.Held, phase.{After.After, Phase.Phase}}}
-use Rattle.laws_threads.{specs.{InsideMoves.{GoesOnInside, OnwardStands, TopStands}, StructureLaws.StaysStructured, ThrowLaws.ThrowsOn}, proofs.Turns.running}
+use Rattle.laws_threads.{specs.{InsideMoves.{GoesOnInside, OnwardStands, TopStands}, StructureLaws.StaysStructured, ThrowLaws.ThrowsOn}, proofs.{ThreadMove.over_to, Turns.running}}
 use Rattle.jvm_types.specs.declared.outcome.End.TheVariants as ends
 use Rattle.jvm_types.specs.declared.outcome.Thrown as outcomes
 use Rattle.machine_types.specs.declared.phase.After.TheVariants as afters
@@ -73,6 +73,10 @@ pub none_goes_on : (c : MarkedProgram) (onward : Onward) (held : List Held) (o :
 none_goes_on c onward held None e = tt
 none_goes_on c onward held (Some a) e = absurd (cc)
 
+pub each_goes_on : (c : MarkedProgram) (onward : Onward) (held : List Held) (o : Option Attempt) → ((a : Attempt) → o ≡ Some a → GoesOnInside c onward held a) → AttemptGoesOn c onward held o
+each_goes_on c onward held None f = tt
+each_goes_on c onward held (Some a) f = f a refl
+
 -- inside an attempt that goes on, in the phase that the thread comes to
 goes_inside : (c : MarkedProgram) (onward : Onward) (phase : Phase) (fs : List Frame) (held : List Held) (o : Option Attempt) → ((a : Attempt) → GoesOnInside c onward held a → AttemptStands c phase fs held a) → AttemptGoesOn c onward held o → AttemptStandsIn c phase fs held o
 goes_inside c onward phase fs held None f k = tt
@@ -100,14 +104,12 @@ module _ (c : MarkedProgram) (was : Phase) (s : Thread) (once : AreHeldOnce s.he
     stands = record { shown = k.now; show = k.show; depths = λ n. let e = d n in let f = k.counts n in omega arith; once = once; phase_shows = k.leaves };
     attempt = goes_inside c (Leaving m a fs) (phases.Leave m a) fs s.held s.attempt (λ a k. k) inside;
   }
-  going RootReturned shown k d inside = by_roots s.roots
+  going RootReturned shown k d inside = over_to (λ phase. StaysStructured c was (record s { frames = []; phase = phase })) s.roots
+      (λ e. record { is_as = refl; stands = record { shown = []; show = refl; depths = none_deep; once = once; phase_shows = refl }; attempt = goes_inside c RootReturned (phases.Ending ends.Returned) [] s.held s.attempt (λ a k. absurd k) inside })
+      (λ number rest e. record { is_as = refl; stands = record { shown = []; show = refl; depths = none_deep; once = once; phase_shows = refl }; attempt = goes_inside c RootReturned phases.Start [] s.held s.attempt (λ a k. absurd k) inside })
     where
-      zero_deep : (m : ℕ) → 0 ≡ held_depth m s.held + tried_depth m s.attempt
-      zero_deep = none_shown shown k d
-
-      by_roots : (roots : List ℕ) → StaysStructured c was (record s { frames = []; phase = root_over roots })
-      by_roots [] = record { is_as = refl; stands = record { shown = []; show = refl; depths = λ m. let e = zero_deep m in omega arith; once = once; phase_shows = refl }; attempt = goes_inside c RootReturned (phases.Ending ends.Returned) [] s.held s.attempt (λ a k. absurd k) inside }
-      by_roots (number ∷ roots) = record { is_as = refl; stands = record { shown = []; show = refl; depths = λ m. let e = zero_deep m in omega arith; once = once; phase_shows = refl }; attempt = goes_inside c RootReturned phases.Start [] s.held s.attempt (λ a k. absurd k) inside }
+      none_deep : (m : ℕ) → 0 + 0 ≡ held_depth m s.held + tried_depth m s.attempt + 0
+      none_deep m = let e = none_shown shown k d m in omega arith
   going (Uncaught class) shown k d inside = record {
     is_as = refl;
     stands = record { shown = []; show = refl; depths = λ m. let e = none_shown shown k d m in omega arith; once = once; phase_shows = refl };

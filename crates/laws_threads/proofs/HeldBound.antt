@@ -1,7 +1,7 @@
 -- A thread holds no more monitors than its frames show entries, and each frame shows no more than its method and its held tags.
 use Rattle.std.proofs.Common.{◌≡◌, ℕ, zero, suc, ◌+◌, ◌*◌, ◌<◌, ◌≤◌, Bool, false, cond, List, [], ◌∷◌, map, length, Option, Some, None, refl, ap, ◌∙◌, subst, arith, length-append, ◌==◌, slice_get}
 use Rattle.std.proofs.{Math.Nat.{le-max_left, le-max_right}, lemmas.{Bool.Decides.nat_tests, List.length-map}}
-use Rattle.jvm_types.specs.{Members.is_synchronized, declared.{limits.TheConstants.MOST_FRAMES, program.MethodInfo.MethodInfo}}
+use Rattle.jvm_types.specs.{Members.is_synchronized, declared.{limits.TheConstants.MOST_FRAMES}}
 use Rattle.checked_program.specs.{LockTags.TagShape, MarkedProgram.MarkedProgram, TaggedCode.tagged_by, declared.tag.Tags.Tags}
 use Rattle.machine_types.specs.{Frames.monitor_of, HeldMonitors.{held_at, held_in_frame, most_in, most_held, places_of}, Shown.{Shows, ShowBelow, Show, own_entry, tag_value}}
 use Rattle.machine_types.specs.{Standing.{Operands, Whole}, Structure.{AreHeldOnce, Stands, IsAs, count_in, held_depth, once_at}, Threads.Frame, declared.{lock.Held.Held, phase.Phase.Phase}}
@@ -47,13 +47,10 @@ module _ (c : MarkedProgram) where
   abbrev most : ℕ
   most = most_held c.tags
 
-  own_few : (m : MethodInfo) (f : Frame) → length (own_entry c.program m f) ≤ 1
-  own_few m f = either_way (λ (b : Bool). length (cond b (monitor_of c.program m f ∷ []) []) ≤ 1) (is_synchronized m.flags) (omega arith) (omega arith)
-
   frame_few : (operands : Operands) (f : Frame) (own : List ℕ) → Shows c operands f own → length own ≤ 1 + most
   frame_few operands f own s =
       let held : length s.stands.tags.held ≤ most = in_tags f.method s.stands.number c.tags s.stands.at.frames s.stands.tags s.stands.at.of_method s.stands.at.frame in
-      let one : length (own_entry c.program s.stands.method f) ≤ 1 = own_few s.stands.method f in
+      let one : length (own_entry c.program s.stands.method f) ≤ 1 = either_way (λ (b : Bool). length (cond b (monitor_of c.program s.stands.method f ∷ []) []) ≤ 1) (is_synchronized s.stands.method.flags) (omega arith) (omega arith) in
       let long : length own ≡ length (map (tag_value s.choice f.receiver) s.stands.tags.held) + length (own_entry c.program s.stands.method f) = ap (length {A = ℕ}) s.shown_are ∙ length-append (map (tag_value s.choice f.receiver) s.stands.tags.held) (own_entry c.program s.stands.method f) in
       let mapped : length (map (tag_value s.choice f.receiver) s.stands.tags.held) ≡ length s.stands.tags.held = length-map s.stands.tags.held (tag_value s.choice f.receiver) in
       omega arith

@@ -1,6 +1,7 @@
 -- A thread makes an instruction.
-use Rattle.std.proofs.Common.{◌≡◌, ℕ, ◌+◌, Bool, true, false, cond, List, [], ◌∷◌, ◌++◌, Option, Some, None, refl, sym, ap, ◌∙◌, subst, arith, slice_get, option_map}
-use Rattle.jvm_types.specs.{Members.is_synchronized, Verifying.is_return, declared.code.Insn.Insn}
+use Rattle.laws_threads.proofs.Tests.{either_way}
+use Rattle.std.proofs.Common.{◌≡◌, ℕ, ◌+◌, Bool, true, cond, List, [], ◌∷◌, ◌++◌, Option, Some, None, refl, sym, ap, ◌∙◌, subst, arith, slice_get, option_map}
+use Rattle.jvm_types.specs.{Members.is_synchronized, declared.code.Insn.Insn}
 use Rattle.jvm_types.specs.declared.{outcome.Thrown.TheVariants.{StackOverflowError, IllegalMonitorStateException, OutOfMemoryError, ArrayIndexOutOfBoundsException}, program.MethodInfo.MethodInfo}
 use Rattle.checked_program.specs.MarkedProgram.{MarkedProgram, IsMarked}
 use Rattle.machine_types.specs.{Frames.{Top, top_of, frames_of, effect_at, went, went_on, waiting, making, has_room, monitor_of, returned}, Going.{with_phase, goes_on, goes_on_if}}
@@ -8,15 +9,14 @@ use Rattle.machine_types.specs.{HeldMonitors.held_at, Instructions.{made, printe
 use Rattle.machine_types.specs.{ReadyObjects.{ready, thrown_of}, Shown.Show, Standing.Whole}
 use Rattle.machine_types.specs.{Structure.{TopIs, AreHeldOnce, IsFlat, IsFat, Stands, AttemptStandsIn, is_element_op, count_in, held_depth, tried_depth, once_at}, Threads.{Frame, Attempt, Thread}}
 use Rattle.machine_types.specs.{Words.{header_class, header_length, value_word}, declared.{effect.Effect.Effect, lock.{Held.Held, Kept.Kept}, phase.Phase.Phase}}
-use Rattle.laws_threads.specs.{CallLaws.{IsLeft, callee_frame}, InsideEffects.MayDo, InsideMoves.GoesAlong, MoveLaws.goes_to, StructureLaws.StaysStructured, ThrowLaws.may_throw}
+use Rattle.laws_threads.specs.{CallLaws.{callee_frame}, InsideEffects.MayDo, InsideMoves.GoesAlong, MoveLaws.goes_to, StructureLaws.StaysStructured, ThrowLaws.may_throw}
 use Rattle.laws_threads.proofs.{ElementEffects.element_at, FrameCalls.{calls_law, call_enters_law}, FramePlaces.tops_stand_law, FrameReturns.returns_law, FrameThrows.{effects_throw_law, throws_law}}
 use Rattle.laws_threads.proofs.{GoingOn.{back_shows, OnwardShows, AttemptGoesOn, none_goes_on, onward_stands, going}, Inside.{inside_may, stays_in}, MonitorMoves.{enters_law, leaves_law}}
 use Rattle.laws_threads.proofs.{MoveProofs.{follow_law, effects_law, making_law}, Steps.steps_inside}
-use Rattle.laws_threads.proofs.{ThreadMove.{Asks, WaitsFrom, IsNotify, of_one, of_all, Refuses, past_end, no_memory, waits_unheld, notifies_unheld}, Turns.{running, no_attempt}}
+use Rattle.laws_threads.proofs.{ThreadMove.{if_either, Asks, WaitsFrom, IsNotify, of_one, of_all, Refuses, past_end, no_memory, waits_unheld, notifies_unheld}, Turns.{running, no_attempt}}
 use Rattle.jvm_types.specs.declared.outcome.End.TheVariants as ends
 use Rattle.jvm_types.specs.declared.outcome.Thrown as outcomes
 use Rattle.machine_types.specs.declared.effect.Effect.TheVariants as effects
-use Rattle.machine_types.specs.declared.lock.Kept.TheVariants as keeps
 use Rattle.machine_types.specs.declared.phase.After.TheVariants as afters
 use Rattle.machine_types.specs.declared.phase.Phase.TheVariants as phases
 use Rattle.machine_types.specs.declared.phase.Toward.TheVariants as towards
@@ -55,30 +55,21 @@ module _ (c : MarkedProgram) (marked : IsMarked c) (fs : List Frame) (shown : Li
 
   called_shows : (number : ℕ) → effect_at c.program at ≡ effects.Calls number → (o : Option MethodInfo) → slice_get c.program.methods number ≡ o → OnwardShowsIf c (option_map (called c.program at number) o) shown
   called_shows number f None g = tt
-  called_shows number f (Some m) g = by_room (has_room c.program (frames_of at) m)
-    where
-      frame : Frame
-      frame = callee_frame c.program at number m
-
-      by_flag : (b : Bool) → is_synchronized m.flags ≡ b → Show c Whole (frame ∷ waiting c.program at) (cond b (monitor_of c.program m frame ∷ []) [] ++ shown)
-          → OnwardShows c (cond b (Entering (monitor_of c.program m frame) (frame ∷ waiting c.program at)) (Running (frame ∷ waiting c.program at))) shown
-      by_flag true e k = (call_enters_law c fs at number m marked t g e, k)
-      by_flag false e k = (tt, k)
-
-      by_room : (room : Bool) → OnwardShows c (cond room (entered c.program m frame (waiting c.program at)) (threw StackOverflowError at)) shown
-      by_room true = by_flag (is_synchronized m.flags) refl (calls_law c fs shown at number m marked t show f g)
-      by_room false = threw_shows StackOverflowError (effects.Calls number) f refl
+  called_shows number f (Some m) g =
+      let frame = callee_frame c.program at number m in
+      if_either (λ o. OnwardShows c o shown) (has_room c.program (frames_of at) m) (entered c.program m frame (waiting c.program at)) (threw StackOverflowError at)
+      (either_way (λ (b : Bool). is_synchronized m.flags ≡ b → Show c Whole (frame ∷ waiting c.program at) (cond b (monitor_of c.program m frame ∷ []) [] ++ shown)
+      → OnwardShows c (cond b (Entering (monitor_of c.program m frame) (frame ∷ waiting c.program at)) (Running (frame ∷ waiting c.program at))) shown) (is_synchronized m.flags)
+      (λ e k. (call_enters_law c fs at number m marked t g e, k)) (λ e k. (tt, k)) refl (calls_law c fs shown at number m marked t show f g))
+      (threw_shows StackOverflowError (effects.Calls number) f refl)
 
   returns_shows : effect_at c.program at ≡ effects.Returns → OnwardShows c (returns c.program at) shown
-  returns_shows f = by_flag (is_synchronized at.method.flags) refl left.own
-    where
-      left : IsLeft c at is_return Whole (returned c.program at) shown
-      left = returns_law c fs shown at marked t show f
-
-      by_flag : (b : Bool) → is_synchronized at.method.flags ≡ b → shown ≡ cond b (monitor_of c.program at.method at.frame ∷ []) [] ++ left.rest
-          → OnwardShows c (cond b (Leaving (monitor_of c.program at.method at.frame) afters.Return (frames_of at)) (back (returned c.program at))) shown
-      by_flag true e own = record { leaves = left.leaves e; now = shown; counts = λ n. omega arith; show = subst (λ (gs : List Frame). Show c Whole gs shown) is_top show }
-      by_flag false e own = subst (λ (ns : List ℕ). OnwardShows c (back (returned c.program at)) ns) (sym own) (back_shows c (returned c.program at) left.rest left.show)
+  returns_shows f =
+      let left = returns_law c fs shown at marked t show f in
+      either_way (λ (b : Bool). is_synchronized at.method.flags ≡ b → shown ≡ cond b (monitor_of c.program at.method at.frame ∷ []) [] ++ left.rest
+      → OnwardShows c (cond b (Leaving (monitor_of c.program at.method at.frame) afters.Return (frames_of at)) (back (returned c.program at))) shown) (is_synchronized at.method.flags)
+      (λ e own. record { leaves = left.leaves e; now = shown; counts = λ n. omega arith; show = subst (λ (gs : List Frame). Show c Whole gs shown) is_top show })
+      (λ e own. subst (λ (ns : List ℕ). OnwardShows c (back (returned c.program at)) ns) (sym own) (back_shows c (returned c.program at) left.rest left.show)) refl left.own
 
   left_shows : (m : ℕ) → effect_at c.program at ≡ effects.Leaves m → OnwardShows c (Leaving m afters.Next (went_on c.program at 0)) shown
   left_shows m f = let k = leaves_law c fs shown at m marked t show f in
@@ -183,26 +174,18 @@ module _ (c : MarkedProgram) (marked : IsMarked c) (s : Thread) (at : Top) (t : 
   went_shows : (e : Effect) → effect_at c.program at ≡ e → goes_to at.insn.next e ≡ Some at.insn.next → Show c Whole (went_on c.program at 0) k.shown
   went_shows e f g = effects_law c s.frames k.shown at at.insn.next 0 marked t k.show (ap (goes_to at.insn.next) f ∙ g)
 
-  pub waits_for : (m : ℕ) (h : Held) (now : Phase) → effect_at c.program at ≡ effects.Waits m → held_at s.held m ≡ Some h → WaitsFrom m h.kept now → StaysStructured c was (record s { frames = went_on c.program at 0; phase = now; turns = 0 })
-  waits_for m h now f e w = by_kept h.kept refl now w
-    where
-      shows : Show c Whole (went_on c.program at 0) k.shown
-      shows = went_shows (effects.Waits m) f refl
-
-      none : s.attempt ≡ None
-      none = none_by (effects.Waits m) f (λ m n. n)
-
-      by_kept : (kept : Kept) → h.kept ≡ kept → (now : Phase) → WaitsFrom m kept now → StaysStructured c was (record s { frames = went_on c.program at 0; phase = now; turns = 0 })
-      by_kept _ g _ (moves.grows_first count) = record {
-        is_as = refl;
-        stands = record { shown = k.shown; show = shows; depths = k.depths; once = k.once; phase_shows = record { toward_shows = tt; flat = subst (λ (o : Option Held). IsFlat o) (sym e) (count, g); once = tt } };
-        attempt = no_attempt c (phases.Grow m towards.Wait) (went_on c.program at 0) s.held s.attempt none;
-      }
-      by_kept _ g _ (moves.waits_fat r) = record {
-        is_as = refl;
-        stands = record { shown = k.shown; show = shows; depths = k.depths; once = k.once; phase_shows = (tt, subst (λ (o : Option Held). IsFat r o) (sym e) g) };
-        attempt = no_attempt c (phases.WaitBit m r) (went_on c.program at 0) s.held s.attempt none;
-      }
+  pub waits_for : (m : ℕ) (h : Held) (kept : Kept) (now : Phase) → effect_at c.program at ≡ effects.Waits m → held_at s.held m ≡ Some h → h.kept ≡ kept → WaitsFrom m kept now
+      → StaysStructured c was (record s { frames = went_on c.program at 0; phase = now; turns = 0 })
+  waits_for m h _ _ f e g (moves.grows_first count) = record {
+    is_as = refl;
+    stands = record { shown = k.shown; show = went_shows (effects.Waits m) f refl; depths = k.depths; once = k.once; phase_shows = record { toward_shows = tt; flat = subst (λ (o : Option Held). IsFlat o) (sym e) (count, g); once = tt } };
+    attempt = no_attempt c (phases.Grow m towards.Wait) (went_on c.program at 0) s.held s.attempt (none_by (effects.Waits m) f (λ m n. n));
+  }
+  waits_for m h _ _ f e g (moves.waits_fat r) = record {
+    is_as = refl;
+    stands = record { shown = k.shown; show = went_shows (effects.Waits m) f refl; depths = k.depths; once = k.once; phase_shows = (tt, subst (λ (o : Option Held). IsFat r o) (sym e) g) };
+    attempt = no_attempt c (phases.WaitBit m r) (went_on c.program at 0) s.held s.attempt (none_by (effects.Waits m) f (λ m n. n));
+  }
 
   -- one or all
   notify_shows : (m : ℕ) → IsNotify c.program at m → Show c Whole (went_on c.program at 0) k.shown × (s.attempt ≡ None)
@@ -213,23 +196,14 @@ module _ (c : MarkedProgram) (marked : IsMarked c) (s : Thread) (at : Top) (t : 
   notifies_nobody m y = let shows = notify_shows m y in
       running c was (record s { frames = went_on c.program at 0 }) (record { shown = k.shown; show = shows.0; depths = k.depths; once = k.once; phase_shows = tt }) (no_attempt c phases.Run (went_on c.program at 0) s.held s.attempt shows.1)
 
-  pub notifies_some : (m : ℕ) (h : Held) (now : Phase) → IsNotify c.program at m → held_at s.held m ≡ Some h → Asks m h.kept now → StaysStructured c was (record s { frames = went_on c.program at 0; phase = now })
-  notifies_some m h now y e w = by_kept h.kept refl now w
-    where
-      shows : Show c Whole (went_on c.program at 0) k.shown × (s.attempt ≡ None)
-      shows = notify_shows m y
-
-      fat : (r : ℕ) → h.kept ≡ keeps.Fat r → IsFat r (held_at s.held m)
-      fat r g = subst (λ (o : Option Held). IsFat r o) (sym e) g
-
-      by_kept : (kept : Kept) → h.kept ≡ kept → (now : Phase) → Asks m kept now → StaysStructured c was (record s { frames = went_on c.program at 0; phase = now })
-      by_kept _ g _ (moves.looks_who r) = record {
-        is_as = refl;
-        stands = record { shown = k.shown; show = shows.0; depths = k.depths; once = k.once; phase_shows = (tt, fat r g) };
-        attempt = no_attempt c (phases.NotifyLook m r) (went_on c.program at 0) s.held s.attempt shows.1;
-      }
-      by_kept _ g _ (moves.clears_all r) = record {
-        is_as = refl;
-        stands = record { shown = k.shown; show = shows.0; depths = k.depths; once = k.once; phase_shows = (tt, fat r g) };
-        attempt = no_attempt c (phases.NotifyAll m r) (went_on c.program at 0) s.held s.attempt shows.1;
-      }
+  pub notifies_some : (m : ℕ) (h : Held) (kept : Kept) (now : Phase) → IsNotify c.program at m → held_at s.held m ≡ Some h → h.kept ≡ kept → Asks m kept now → StaysStructured c was (record s { frames = went_on c.program at 0; phase = now })
+  notifies_some m h _ _ y e g (moves.looks_who r) = let shows = notify_shows m y in record {
+    is_as = refl;
+    stands = record { shown = k.shown; show = shows.0; depths = k.depths; once = k.once; phase_shows = (tt, subst (λ (o : Option Held). IsFat r o) (sym e) g) };
+    attempt = no_attempt c (phases.NotifyLook m r) (went_on c.program at 0) s.held s.attempt shows.1;
+  }
+  notifies_some m h _ _ y e g (moves.clears_all r) = let shows = notify_shows m y in record {
+    is_as = refl;
+    stands = record { shown = k.shown; show = shows.0; depths = k.depths; once = k.once; phase_shows = (tt, subst (λ (o : Option Held). IsFat r o) (sym e) g) };
+    attempt = no_attempt c (phases.NotifyAll m r) (went_on c.program at 0) s.held s.attempt shows.1;
+  }

@@ -70,17 +70,13 @@ ended p s e b = record {
   inner = b.inner;
   entry = tt;
   inflated = b.inflated;
-  sections = by_attempt s.attempt b.sections;
+  sections = (elim s.attempt as (λ o. s.counts.elided + s.counts.failed + s.counts.locked + under_way o (phases.Ending e) ≤ s.counts.instructions
+      → s.counts.elided + s.counts.failed + s.counts.locked + under_way o (phases.Ended e) ≤ s.counts.instructions) [ None ↦ λ t. t | Some a ↦ λ t. t ]) b.sections;
 }
   where
     by_end : (e : End) → TurnsFit (phases.Ending e) s.turns s.cfg.turns → TurnsFit (phases.Ended e) s.turns s.cfg.turns
     by_end ends.Turns t = t
     by_end e t = t
-
-    by_attempt : (attempt : Option Attempt) → s.counts.elided + s.counts.failed + s.counts.locked + under_way attempt (phases.Ending e) ≤ s.counts.instructions
-        → s.counts.elided + s.counts.failed + s.counts.locked + under_way attempt (phases.Ended e) ≤ s.counts.instructions
-    by_attempt None t = t
-    by_attempt (Some a) t = t
 
 -- ---- all moves
 

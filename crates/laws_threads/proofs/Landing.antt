@@ -8,7 +8,6 @@ use Rattle.checked_program.{specs.Tagging.IsTagAssignment, proofs.CheckedPlaces.
 use Rattle.laws_sections.proofs.VisitsLocal.{landing}
 use Rattle.machine_types.specs.{Frames.top_of, Standing.{Standing, tags_of}, Threads.Frame, Typed.{Classes, FrameHolds}}
 use Rattle.laws_threads.proofs.{FramePlaces.{has_top, sound_at}, Lists.mapped_at, Values.{ValuesHold, values_below}}
-use Rattle.laws_threads.proofs.MarkedMethods.{method_at}
 use Rattle.jvm_types.specs.Verifying as types
 use Rattle.checked_program.specs.Tagging as tagging
 use Rattle.checked_program.specs.Visits as visits

@@ -1,5 +1,6 @@
 -- What a method of a marked program has: its types and its tags, under their local laws.
-use Rattle.std.{proofs.Common.{◌≡◌, ℕ, suc, Bool, true, false, cond, List, [], ◌∷◌, map, Option, Some, None, refl, sym, ap, ◌∙◌, subst, arith, ◌==◌, slice_get}, specs.List.AllByRecursion}
+use Rattle.laws_threads.proofs.Tests.{either_way}
+use Rattle.std.{proofs.Common.{◌≡◌, ℕ, suc, Bool, false, cond, List, [], ◌∷◌, map, Option, Some, None, refl, sym, ap, ◌∙◌, subst, arith, ◌==◌, slice_get}, specs.List.AllByRecursion}
 use Rattle.std.proofs.lemmas.Bool.{or_parts, Decides.nat_tests}
 use Rattle.lists.proofs.ListLaws.{same_some}
 use Rattle.jvm_types.specs.{Types.TypeFrame, Verifying.{IsLaidOut, HasTyping}, declared.{code.Insn.Insn, program.{MethodInfo.MethodInfo, Program.Program}, typing.Typing.Typing}}
@@ -56,13 +57,10 @@ pub found_at : {A : Type 0} (code : List Insn) (frames : List (Option A)) (pc : 
     → (i : ℕ) × (insn : Insn) × (slice_get code i ≡ Some insn) × (insn.pc ≡ pc) × (slice_get frames i ≡ Some (Some f))
 found_at [] frames pc f e = absurd (cc)
 found_at (insn ∷ code) [] pc f e = absurd (cc)
-found_at {A} (insn ∷ code) (frame ∷ frames) pc f e = by_test (insn.pc == pc) refl e (found_at code frames pc f)
-  where
-    by_test : (t : Bool) → (insn.pc == pc) ≡ t → cond t frame (frame_at_pc code frames pc) ≡ Some f
-        → (frame_at_pc code frames pc ≡ Some f → (i : ℕ) × (x : Insn) × (slice_get code i ≡ Some x) × (x.pc ≡ pc) × (slice_get frames i ≡ Some (Some f)))
-        → (i : ℕ) × (x : Insn) × (slice_get (insn ∷ code) i ≡ Some x) × (x.pc ≡ pc) × (slice_get (frame ∷ frames) i ≡ Some (Some f))
-    by_test true h e more = (0, insn, refl, grind (arith, nat_tests, h), ap (λ (o : Option A). Some o) e)
-    by_test false h e more = let l = more e in (suc l.0, l.1, l.2, l.3, l.4)
+found_at {A} (insn ∷ code) (frame ∷ frames) pc f e = either_way (λ (t : Bool). (insn.pc == pc) ≡ t → cond t frame (frame_at_pc code frames pc) ≡ Some f
+    → (i : ℕ) × (x : Insn) × (slice_get (insn ∷ code) i ≡ Some x) × (x.pc ≡ pc) × (slice_get (frame ∷ frames) i ≡ Some (Some f))) (insn.pc == pc)
+    (λ h e. (0, insn, refl, grind (arith, nat_tests, h), ap (λ (o : Option A). Some o) e))
+    (λ h e. let l = found_at code frames pc f e in (suc l.0, l.1, l.2, l.3, l.4)) refl e
 
 -- ---- tags
 

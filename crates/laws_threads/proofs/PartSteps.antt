@@ -74,11 +74,10 @@ module _ (c : MarkedProgram) (x : Thread) (got : ℕ) where
   moved_fits (y ∷ workers) (suc t) e part fits = worker_fits y.part y.phase workers t x (moved c x x.phase got) e (λ e. ap (λ (phase : Phase). (moved c x phase got).phase) e ∙ e) fits
 
 pub event_fits : EventsFitParts
-event_fits c s t part fits = by_thread (slice_get s.threads t) refl
-  where
-    by_thread : (o : Option Thread) → slice_get s.threads t ≡ o → PartsFit (event_of c s t o).threads
-    by_thread None e = fits
-    by_thread (Some x) e = moved_fits c x (found_by s.words (wanted c x x.phase)) s.threads t e (part x (found_by s.words (wanted c x x.phase))) fits
+event_fits c s t part fits = (elim (slice_get s.threads t) as (λ o. slice_get s.threads t ≡ o → PartsFit (event_of c s t o).threads) [
+  | None ↦ λ e. fits
+  | Some x ↦ λ e. moved_fits c x (found_by s.words (wanted c x x.phase)) s.threads t e (part x (found_by s.words (wanted c x x.phase))) fits
+]) refl
 
 -- ---- where a part begins
 
@@ -90,11 +89,10 @@ module _ (p : Program) (x : Thread) (workers : List Thread) where
   part_fits (suc (suc part)) e k true f = absurd (cc)
 
 pub next_fits : NextFitsParts
-next_fits c s k = by_threads s.threads k
-  where
-    by_threads : (threads : List Thread) → PartsFit threads → PartsFit (next_threads c.program threads)
-    by_threads [] k = tt
-    by_threads (x ∷ workers) k = part_fits c.program x workers x.part refl k (may_begin_by x.part x.phase workers) refl
+next_fits c s k = (elim s.threads as (λ threads. PartsFit threads → PartsFit (next_threads c.program threads)) [
+  | [] ↦ λ k. tt
+  | x ∷ workers ↦ λ k. part_fits c.program x workers x.part refl k (may_begin_by x.part x.phase workers) refl
+]) k
 
 -- ---- a thread without frames
 

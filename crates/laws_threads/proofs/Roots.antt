@@ -2,7 +2,7 @@
 use Rattle.laws_threads.proofs.Tests.{either_way}
 use Rattle.std.proofs.Common.{◌≡◌, ℕ, zero, suc, ◌+◌, ◌<◌, ◌^◌, ◌⊎◌, inl, inr, Bool, true, false, ◌&&◌, ◌||◌, List, [], ◌∷◌, ◌++◌, length, Option, Some, None, refl, ap, sym, subst, ◌∙◌, arith, ◌==◌, nat_lt, codes, bytes_eq, slice_get, map, option_map, if◌then◌else◌, IsTrue}
 use Rattle.std.{specs.List.{AllZip, AllByRecursion}, proofs.lemmas.{Bool.Decides.nat_tests, Slice.Eq.bytes_eq-Decides}}
-use Rattle.lists.proofs.{ListLaws.same_some, TestLaws.{both_true, both_are_true, first_true, second_true}}
+use Rattle.lists.proofs.{ListLaws.same_some, TestLaws.{both_true, both_are_true, second_true}}
 use Rattle.jvm_types.specs.{ClassNames.file_class, CodeTable.type_of, LinkFaults.{is_run, is_entry}, Members.{is_static, is_class_init_name}, Numbers.has_number, ProgramInvariant.IsProgram}
 use Rattle.jvm_types.specs.declared.{outcome.Thrown.TheVariants.StackOverflowError, program.{Kind.Kind, MethodInfo.MethodInfo, Program.Program}}
 use Rattle.laws_programs.{specs.RootLaws.IsRoot, proofs.RootMethods.{class_inits, entries, run_root}}

@@ -15,11 +15,10 @@ use Rattle.jvm_types.specs.declared.code.Op.TheVariants as ops
 -- ---- pcs
 
 pub next_later : (m : MethodInfo) (i : ℕ) (insn : Insn) → IsLaidOut m → slice_get m.code i ≡ Some insn → insn.pc < insn.next
-next_later m i insn l e = by_place (follows m i insn l e)
-  where
-    by_place : ((other : Insn) × (slice_get m.code (suc i) ≡ Some other) × (other.pc ≡ insn.next)) ⊎ ((suc i ≡ length m.code) × (insn.next ≡ length l.bytes)) → insn.pc < insn.next
-    by_place (inl (other, f, p)) = let up : insn.pc < other.pc = ascend m i (suc i) insn other l e f (omega arith) in omega (arith, up, p)
-    by_place (inr (last, p)) = let up = (short m i insn l e).0 in omega (arith, up, p)
+next_later m i insn l e = elim (follows m i insn l e) as (λ _. insn.pc < insn.next) [
+  | inl (other, f, p) ↦ let up = ascend m i (suc i) insn other l e f (omega arith) in omega (arith, up, p)
+  | inr (last, p) ↦ let up = (short m i insn l e).0 in omega (arith, up, p)
+]
 
 -- the `monitorenter` that a frame stands right behind
 pub record Entered (c : MarkedProgram) (f : Frame) (k : Standing c f) : Type 0 where

@@ -53,11 +53,8 @@ pub record Runs (c : MarkedProgram) (a : Attempt) (f : Frame) (rest : List Frame
   pub are : AreParts c.program (tags_of c) (section_of a) a.entry.receiver (part_of f stands.number ∷ parts) mode
 
 pub runs_of : (c : MarkedProgram) (a : Attempt) (f : Frame) (rest : List Frame) → RunsSection c a (f ∷ rest) → Runs c a f rest
-runs_of c a f rest (parts, mode, zip, are) = by_parts parts zip are
-  where
-    by_parts : (parts : List Part) → AllZip (IsPart c) (f ∷ rest) parts → AreParts c.program (tags_of c) (section_of a) a.entry.receiver parts mode → Runs c a f rest
-    by_parts [] zip are = absurd zip
-    by_parts (b ∷ bs) zip are = record { stands = zip.0.0; parts = bs; others = zip.1; mode = mode; are = subst (λ x. AreParts c.program (tags_of c) (section_of a) a.entry.receiver (x ∷ bs) mode) zip.0.1 are }
+runs_of c a f rest ([], mode, zip, are) = absurd zip
+runs_of c a f rest (b ∷ bs, mode, zip, are) = record { stands = zip.0.0; parts = bs; others = zip.1; mode = mode; are = subst (λ x. AreParts c.program (tags_of c) (section_of a) a.entry.receiver (x ∷ bs) mode) zip.0.1 are }
 
 pub section_of_runs : (c : MarkedProgram) (a : Attempt) (f : Frame) (rest : List Frame) → Runs c a f rest → RunsSection c a (f ∷ rest)
 section_of_runs c a f rest r = (part_of f r.stands.number ∷ r.parts, r.mode, ((r.stands, refl), r.others), r.are)

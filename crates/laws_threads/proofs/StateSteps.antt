@@ -2,7 +2,7 @@
 use Rattle.std.proofs.Common.{◌≡◌, ℕ, zero, suc, Bool, true, false, cond, List, [], ◌∷◌, Option, Some, None, refl, sym, ap, ◌∙◌, subst, arith, ◌==◌, slice_get, slice_set}
 use Rattle.std.proofs.lemmas.Bool.Decides.{nat_tests}
 use Rattle.checked_program.specs.MarkedProgram.{MarkedProgram, IsMarked}
-use Rattle.machine_types.specs.{Accesses.found_by, Bounds.IsRooted, Core.{Core, event, event_of}, Events.{wanted, moved}, PlainMemory.Object, Structure.{IsStructured, Structure}, Threads.Thread}
+use Rattle.machine_types.specs.{Accesses.found_by, Bounds.IsRooted, Core.{Core, event_of}, Events.{wanted, moved}, PlainMemory.Object, Structure.{IsStructured, Structure}, Threads.Thread}
 use Rattle.machine_types.specs.{Typed.{HasClass, ThreadHolds}, declared.phase.Phase.Phase}
 use Rattle.laws_threads.specs.{InsideMoves.{BeginsAttempt, EntersInside}, StateLaws.{counted_of, counted_phase_at, EventsKeepStructure}, StructureLaws.StaysStructured}
 use Rattle.laws_threads.proofs.ThreadSteps.{structure_kept}

@@ -1,6 +1,6 @@
 -- An attempt stands behind each instruction that may stand inside it.
 use Rattle.std.proofs.lemmas.Bool.{cond_both}
-use Rattle.std.proofs.Common.{◌≡◌, inl, inr, ⊎_elim, ℕ, ◌≤◌, Bool, true, false, List, [], ◌∷◌, length, Option, Some, None, refl, sym, ap, ◌∙◌, subst, arith, slice_get, option_map, if◌then◌else◌}
+use Rattle.std.proofs.Common.{◌≡◌, inl, inr, ⊎_elim, ℕ, ◌≤◌, true, List, [], ◌∷◌, length, Option, Some, None, refl, sym, ap, ◌∙◌, subst, arith, slice_get, option_map}
 use Rattle.lists.proofs.{ListLaws.same_some, TestLaws.first_true}
 use Rattle.jvm_types.specs.{CodeTable.falls_through, Members.is_synchronized, Numbers.has_number, ProgramInvariant.site_in, Verifying.{edges, is_return}, declared.code.{Insn.Insn, Op.Op}}
 use Rattle.jvm_types.specs.declared.{outcome.Thrown.{Thrown, TheVariants.StackOverflowError}, program.{MethodInfo.MethodInfo, Target.Target}}

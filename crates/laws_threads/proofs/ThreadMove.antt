@@ -2,7 +2,7 @@
 -- match on them.
 use Rattle.std.proofs.lemmas.Bool.Decides.{nat_tests}
 use Rattle.std.proofs.Common.{◌≡◌, ℕ, zero, suc, ◌+◌, ◌==◌, nat_lt, Bool, true, false, List, [], ◌∷◌, length, Option, Some, None, refl, sym, subst, arith, nat_le, slice_get, option_map, ◌&&◌, if◌then◌else◌, IfSome}
-use Rattle.std.proofs.lemmas.Bool.{cond_both, Decides.Decides-eqb}
+use Rattle.std.proofs.lemmas.Bool.{cond_both}
 use Rattle.lists.proofs.TestLaws.{both_are_true}
 use Rattle.jvm_types.specs.{Numbers.has_flag, declared.{fixed_words.TheConstants.MONITOR_RECORDS, limits.TheConstants.{FLAG_FROM, MOST_ATTEMPTS}, outcome.{End.End, Thrown.Thrown}}}
 use Rattle.jvm_types.specs.declared.{outcome.Thrown.TheVariants.{ArrayIndexOutOfBoundsException, OutOfMemoryError, IllegalMonitorStateException}, program.Program.Program}

@@ -1,5 +1,6 @@
 -- Each event of a thread keeps its locking structured.
-use Rattle.std.proofs.Common.{◌≡◌, inl, inr, ℕ, Bool, true, false, cond, List, [], ◌∷◌, ◌++◌, Option, Some, None, refl, sym, ap, ◌∙◌, subst, arith, ◌+◌, nat_lt, slice_get, option_map, ◌&&◌, IsTrue}
+use Rattle.laws_threads.proofs.Tests.{either_way}
+use Rattle.std.proofs.Common.{◌≡◌, inl, inr, ℕ, Bool, true, cond, List, [], ◌∷◌, ◌++◌, Option, Some, None, refl, sym, ap, ◌∙◌, subst, arith, ◌+◌, nat_lt, slice_get, option_map, ◌&&◌, IsTrue}
 use Rattle.std.specs.List.{AllByRecursion}
 use Rattle.lists.proofs.TestLaws.{both_are_true}
 use Rattle.jvm_types.specs.{Members.is_synchronized, Numbers.has_number, declared.{limits.TheConstants.MOST_ATTEMPTS, outcome.{End.End, Thrown.TheVariants.StackOverflowError}}}
@@ -9,14 +10,14 @@ use Rattle.machine_types.specs.{Bounds.{IsRooted, part_roots}, Elision.{may_try,
 use Rattle.machine_types.specs.{Frames.{Top, top_of, frames_of, went_on, pushed, has_room, entry_frame, monitor_of, handler_at}, Going.{with_phase, failed_turn, goes_on, goes_on_if}}
 use Rattle.machine_types.specs.{HeldMonitors.{held_at, without_held}, Monitors.{lets_go, lowest_of, HasNot, claim}}
 use Rattle.machine_types.specs.{Onward.{Running, Leaving, Uncaught, rooted, root_arguments, handed, unwound, Onward}, ReadyObjects.class_of, Shown.Show, Standing.{Whole, Thrown}}
-use Rattle.machine_types.specs.{Structure.{Stands, AttemptStandsIn, IsStructured, IsAs, IsLimitAt, IsPhaseInside, count_in, any_op}, Threads.{Frame, Attempt, Thread}}
+use Rattle.machine_types.specs.{Structure.{Stands, AttemptStandsIn, IsStructured, IsAs, IsLimitAt, IsPhaseInside, count_in}, Threads.{Frame, Attempt, Thread}}
 use Rattle.machine_types.specs.{Typed.{Classes, AfterHolds, PhaseHolds, ThreadHolds}, declared.{lock.{Held.Held, Kept.Kept}, phase.{After.After, Phase.Phase}}}
-use Rattle.laws_threads.specs.{CallLaws.IsLeft, InsideMoves.{BeginsAttempt, EntersInside}, StructureLaws.{StaysStructured, StructureIsKept, counted_by, turned_from}, ThrowLaws.ThrowsOn}
-use Rattle.laws_threads.proofs.{FrameCalls.roots_law, FramePlaces.tops_stand_law, FrameThrows.{caught_law, unwound_law}, GoingOn.{unwound_shows, pushed_frame, OnwardShows, AttemptGoesOn, none_goes_on, onward_stands, going}}
+use Rattle.laws_threads.specs.{InsideMoves.{BeginsAttempt, EntersInside}, StructureLaws.{StaysStructured, StructureIsKept, counted_by, turned_from}}
+use Rattle.laws_threads.proofs.{FrameCalls.roots_law, FramePlaces.tops_stand_law, FrameThrows.{caught_law, unwound_law}, GoingOn.{unwound_shows, pushed_frame, OnwardShows, none_goes_on, each_goes_on, onward_stands, going}}
 use Rattle.laws_threads.proofs.MonitorEntries.{from_take, from_flag, from_take_fat, takes_next, takes_fat_next, looks_again, flags, turned_back, turned_back_fat, looks_at_lock, taken, again, to_acquire, begun, deeper_inside, none_tried}
 use Rattle.laws_threads.proofs.{MoveProofs.{elements_law, pushed_law}, Releases.{AtExit, left_with, left_deeper, left_last, grows_first, left_elided, left_inside}, Roots.{IsSomeRoot, part_root}}
 use Rattle.laws_threads.proofs.Steps.{elements_inside}
-use Rattle.laws_threads.proofs.ThreadMove.{Looks, Lacks, GoesBy, Checks, LeadsTo, TurnsTo, Takes, GivesUp, Move, becomes, mover, by_move, of_mover, not_held, tried_attempt, tried_monitor}
+use Rattle.laws_threads.proofs.ThreadMove.{if_either, Looks, Lacks, GoesBy, Checks, LeadsTo, TurnsTo, Takes, GivesUp, Move, becomes, mover, by_move, of_mover, not_held, tried_attempt, tried_monitor}
 use Rattle.laws_threads.proofs.{Throws.throws_inside, Turns.{no_try, failing, no_attempt, outside}}
 use Rattle.laws_threads.proofs.Waits.{to_own, not_grown, to_fat_in, fattened, to_wait_out, given_up, waits_on, to_retake, retakes_not, retaken, notified, to_notify_one, notified_one, notified_all}
 use Rattle.jvm_types.specs.declared.outcome.End.TheVariants as ends
@@ -35,41 +36,29 @@ module _ (c : MarkedProgram) (marked : IsMarked c) (was : Phase) (s : Thread) wh
   module _ (x : ℕ) (class : outcomes.Thrown) (k : Stands c (phases.Throw x class) s.frames s.held s.attempt) (at : Top) (t : top_of c.program s.frames ≡ Some at) where
     handed_shows : (r : Option Row) → handler_at (class_of class) at ≡ r → OnwardShows c (handed c.program x class at r) k.shown
     handed_shows (Some r) e = (tt, caught_law c s.frames k.shown at (class_of class) x r marked t k.show k.phase_shows e)
-    handed_shows None e = by_flag (is_synchronized at.method.flags) refl left.0.own
-      where
-        left : IsLeft c at any_op Thrown at.below k.shown × ThrowsOn c at.below
-        left = unwound_law c s.frames k.shown at (class_of class) marked t k.show k.phase_shows e
-
-        by_flag : (b : Bool) → is_synchronized at.method.flags ≡ b → k.shown ≡ cond b (monitor_of c.program at.method at.frame ∷ []) [] ++ left.0.rest
-            → OnwardShows c (cond b (Leaving (monitor_of c.program at.method at.frame) (afters.Unwind x class) (frames_of at)) (unwound x class at.below)) k.shown
-        by_flag true f own =
-            record { leaves = left.0.leaves f; now = k.shown; counts = λ n. omega arith; show = subst (λ (gs : List Frame). Show c Thrown gs k.shown) (tops_stand_law c s.frames Thrown k.shown at marked k.show t).1.frames k.show }
-        by_flag false f own = subst (λ (ns : List ℕ). OnwardShows c (unwound x class at.below) ns) (sym own) (unwound_shows c x class at.below left.0.rest left.0.show left.1)
+    handed_shows None e =
+        let left = unwound_law c s.frames k.shown at (class_of class) marked t k.show k.phase_shows e in
+        either_way (λ (b : Bool). is_synchronized at.method.flags ≡ b → k.shown ≡ cond b (monitor_of c.program at.method at.frame ∷ []) [] ++ left.0.rest
+        → OnwardShows c (cond b (Leaving (monitor_of c.program at.method at.frame) (afters.Unwind x class) (frames_of at)) (unwound x class at.below)) k.shown) (is_synchronized at.method.flags)
+        (λ f own. record { leaves = left.0.leaves f; now = k.shown; counts = λ n. omega arith; show = subst (λ (gs : List Frame). Show c Thrown gs k.shown) (tops_stand_law c s.frames Thrown k.shown at marked k.show t).1.frames k.show })
+        (λ f own. subst (λ (ns : List ℕ). OnwardShows c (unwound x class at.below) ns) (sym own) (unwound_shows c x class at.below left.0.rest left.0.show left.1)) refl left.0.own
 
     throw_keeps : AttemptStandsIn c (phases.Throw x class) s.frames s.held s.attempt → StaysStructured c was (goes_on s (handed c.program x class at (handler_at (class_of class) at)))
-    throw_keeps inside = going c was s k.once (handed c.program x class at (handler_at (class_of class) at)) k.shown shows (λ m. let d = k.depths m in omega arith) (by_attempt s.attempt refl)
-      where
-        shows : OnwardShows c (handed c.program x class at (handler_at (class_of class) at)) k.shown
-        shows = handed_shows (handler_at (class_of class) at) refl
-
-        by_attempt : (o : Option Attempt) → s.attempt ≡ o → AttemptGoesOn c (handed c.program x class at (handler_at (class_of class) at)) s.held o
-        by_attempt None e = tt
-        by_attempt (Some a) e = throws_inside c x class s.frames s.held a at marked (subst (λ (o : Option Attempt). AttemptStandsIn c (phases.Throw x class) s.frames s.held o) e inside)
-            (subst (λ (o : Option Attempt). Stands c (phases.Throw x class) s.frames s.held o) e k) t (onward_stands c (handed c.program x class at (handler_at (class_of class) at)) k.shown shows)
+    throw_keeps inside =
+        let shows = handed_shows (handler_at (class_of class) at) refl in
+        going c was s k.once (handed c.program x class at (handler_at (class_of class) at)) k.shown shows (λ m. let d = k.depths m in omega arith) (each_goes_on c _ s.held s.attempt (λ a e.
+        throws_inside c x class s.frames s.held a at marked (subst (λ (o : Option Attempt). AttemptStandsIn c (phases.Throw x class) s.frames s.held o) e inside)
+        (subst (λ (o : Option Attempt). Stands c (phases.Throw x class) s.frames s.held o) e k) t (onward_stands c (handed c.program x class at (handler_at (class_of class) at)) k.shown shows)))
 
   -- ---- an element, and a new object
 
   element_keeps : (word : ℕ) (stored : Option ℕ) (value : ℕ) → Stands c (phases.Element word stored) s.frames s.held s.attempt → AttemptStandsIn c (phases.Element word stored) s.frames s.held s.attempt → (at : Top) → top_of c.program s.frames ≡ Some at
       → StaysStructured c was (goes_on s (Running (went_on c.program at value)))
-  element_keeps word stored value k inside at t = going c was s k.once (Running (went_on c.program at value)) k.shown shows (λ m. let d = k.depths m in omega arith) (by_attempt s.attempt refl)
-    where
-      shows : OnwardShows c (Running (went_on c.program at value)) k.shown
-      shows = (tt, elements_law c s.frames k.shown at stored value marked t k.show k.phase_shows)
-
-      by_attempt : (o : Option Attempt) → s.attempt ≡ o → AttemptGoesOn c (Running (went_on c.program at value)) s.held o
-      by_attempt None e = tt
-      by_attempt (Some a) e = (elements_inside c word stored s.frames s.held a at marked (subst (λ (o : Option Attempt). AttemptStandsIn c (phases.Element word stored) s.frames s.held o) e inside)
-          (subst (λ (o : Option Attempt). Stands c (phases.Element word stored) s.frames s.held o) e k) t).goes_on value (onward_stands c (Running (went_on c.program at value)) k.shown shows)
+  element_keeps word stored value k inside at t =
+      let shows : OnwardShows c (Running (went_on c.program at value)) k.shown = (tt, elements_law c s.frames k.shown at stored value marked t k.show k.phase_shows) in
+      going c was s k.once (Running (went_on c.program at value)) k.shown shows (λ m. let d = k.depths m in omega arith) (each_goes_on c (Running (went_on c.program at value)) s.held s.attempt (λ a e.
+      (elements_inside c word stored s.frames s.held a at marked (subst (λ (o : Option Attempt). AttemptStandsIn c (phases.Element word stored) s.frames s.held o) e inside)
+      (subst (λ (o : Option Attempt). Stands c (phases.Element word stored) s.frames s.held o) e k) t).goes_on value (onward_stands c (Running (went_on c.program at value)) k.shown shows)))
 
   made_keeps : (a word : ℕ) → Stands c (phases.Made a word) s.frames s.held s.attempt → s.attempt ≡ None → StaysStructured c was (goes_on s (Running (pushed a s.frames)))
   made_keeps a word k none = going c was s k.once (Running (pushed a s.frames)) k.shown (pushed_frame a s.frames k.phase_shows, pushed_law c s.frames k.shown a k.show) (λ m. let d = k.depths m in omega arith)
@@ -79,19 +68,11 @@ module _ (c : MarkedProgram) (marked : IsMarked c) (was : Phase) (s : Thread) wh
 
   root_keeps : (number : ℕ) (m : MethodInfo) → slice_get c.program.methods number ≡ Some m → IsSomeRoot m → Stands c phases.Start s.frames s.held s.attempt → s.attempt ≡ None → (roots : List ℕ)
       → StaysStructured c was (goes_on (record s { roots = roots }) (rooted c.program s.number number m))
-  root_keeps number m e root k none roots = going c was (record s { roots = roots }) k.once (rooted c.program s.number number m) [] (by_room (has_room c.program [] m)) (λ n. let d = k.depths n in let z = nothing n in omega arith)
+  root_keeps number m e root k none roots = going c was (record s { roots = roots }) k.once (rooted c.program s.number number m) []
+      (if_either (λ o. OnwardShows c o []) (has_room c.program [] m) (Running (entry_frame number m (root_arguments s.number m) ∷ [])) (Uncaught StackOverflowError)
+      (tt, elim root as (λ _. Show c Whole (entry_frame number m (root_arguments s.number m) ∷ []) []) [ inl r ↦ roots_law c s.number number m marked e r.static r.unsynchronized | inr r ↦ roots_law c s.number number m marked e r.static r.unsynchronized ]) refl)
+      (λ n. let d = k.depths n in let z : count_in n k.shown ≡ 0 = ap (count_in n) (subst (λ (fs : List Frame). Show c Whole fs k.shown) k.phase_shows k.show) in omega arith)
       (none_goes_on c (rooted c.program s.number number m) s.held s.attempt none)
-    where
-      nothing : (n : ℕ) → count_in n k.shown ≡ 0
-      nothing n = ap (count_in n) (subst (λ (fs : List Frame). Show c Whole fs k.shown) k.phase_shows k.show)
-
-      show : IsSomeRoot m → Show c Whole (entry_frame number m (root_arguments s.number m) ∷ []) []
-      show (inl r) = roots_law c s.number number m marked e r.static r.unsynchronized
-      show (inr r) = roots_law c s.number number m marked e r.static r.unsynchronized
-
-      by_room : (b : Bool) → OnwardShows c (cond b (Running (entry_frame number m (root_arguments s.number m) ∷ [])) (Uncaught StackOverflowError)) []
-      by_room true = (tt, show root)
-      by_room false = refl
 
   start_keeps : StaysStructured c was s → (roots : List ℕ) → AllByRecursion (λ (number : ℕ). IsTrue (has_number (part_roots c.program s.number s.part) number)) roots → Stands c phases.Start s.frames s.held s.attempt → s.attempt ≡ None → StaysStructured c was (thread_started c.program s roots)
   start_keeps same [] all k none = same
@@ -240,8 +221,8 @@ module _ (begin : BeginsAttempt) (entered_again : EntersInside) (is : Classes) (
     move_keeps phase (moves.turns now k) here e h = turns_keeps phase now k e
     move_keeps _ (moves.makes top word size t f x) here e h = instruction.object_begins c marked s top t (at phases.Run e) (within phases.Run e) was (same phases.Run here (sym e)) word size got f
     move_keeps _ (moves.prints top n t f x) here e h = instruction.prints_one c marked s top t (at phases.Run e) (within phases.Run e) was (same phases.Run here (sym e)) n got f
-    move_keeps _ (moves.asks_to_wait top m x now t f l k) here e h = instruction.waits_for c marked s top t (at phases.Run e) (within phases.Run e) was (same phases.Run here (sym e)) m x now f l k
-    move_keeps _ (moves.asks top m x now t y l k) here e h = instruction.notifies_some c marked s top t (at phases.Run e) (within phases.Run e) was (same phases.Run here (sym e)) m x now y l k
+    move_keeps _ (moves.asks_to_wait top m x now t f l k) here e h = instruction.waits_for c marked s top t (at phases.Run e) (within phases.Run e) was (same phases.Run here (sym e)) m x x.kept now f l refl k
+    move_keeps _ (moves.asks top m x now t y l k) here e h = instruction.notifies_some c marked s top t (at phases.Run e) (within phases.Run e) was (same phases.Run here (sym e)) m x x.kept now y l refl k
     move_keeps _ (moves.enters_again m tried x f) here e h = from (phases.Enter m tried) _ e (again begin entered_again c s m tried (at (phases.Enter m tried) e) (within (phases.Enter m tried) e) x f)
     move_keeps _ (moves.enters_inside m tried t k) here e h =
         from (phases.Enter m tried) _ e (deeper_inside begin entered_again c s m tried (at (phases.Enter m tried) e) (within (phases.Enter m tried) e) t (tried_attempt m (held_at s.held m) s.attempt t k) (tried_monitor m (held_at s.held m) s.attempt t k))
@@ -266,11 +247,10 @@ Before is c was phase s = IsStructured c was s × AllByRecursion (λ (number : �
 
 pub structure_kept : BeginsAttempt → EntersInside → (is : Classes) (c : MarkedProgram) (was : Phase) (s : Thread) (got : ℕ) → IsMarked c → IsStructured c was s → ThreadHolds c is s → IsRooted c.program s → StaysStructured c was (moved c s s.phase got)
 structure_kept begin entered_again is c was s got marked structured holds rooted =
-    by_move (StaysStructured c was) c s s.phase got (λ k. move_keeps begin entered_again is c marked was (mover c.program s.phase s) got counted.0 counted.1 s.phase k counted.2 structured.is_as counted.3)
-  where
     -- an instruction is counted before it does anything
-    counted : Before is c was s.phase (mover c.program s.phase s)
-    counted = of_mover (Before is c was s.phase) c.program s.phase s (structured, rooted.roots, refl, holds.phase) (record { is_as = structured.is_as; stands = structured.stands; attempt = structured.attempt }, rooted.roots, refl, holds.phase)
+    let counted : Before is c was s.phase (mover c.program s.phase s) = of_mover (Before is c was s.phase) c.program s.phase s (structured, rooted.roots, refl, holds.phase)
+    (record { is_as = structured.is_as; stands = structured.stands; attempt = structured.attempt }, rooted.roots, refl, holds.phase) in
+    by_move (StaysStructured c was) c s s.phase got (λ k. move_keeps begin entered_again is c marked was (mover c.program s.phase s) got counted.0 counted.1 s.phase k counted.2 structured.is_as counted.3)
 
 pub kept : BeginsAttempt → EntersInside → StructureIsKept
 kept begin entered_again c was s got marked structured typed rooted = structure_kept begin entered_again (lawful.within c.program) c was s got marked structured typed.values rooted

@@ -1,19 +1,19 @@
 -- The effect of the instruction at which typed frames stand is allowed, and what it names is there.
 use Rattle.std.proofs.lemmas.Bool.{cond_both}
-use Rattle.std.proofs.Common.{◌≡◌, ℕ, ◌+◌, ◌<◌, ◌≤◌, ◌^◌, ◌⊎◌, inl, inr, Bool, true, false, List, [], ◌∷◌, ◌++◌, length, Some, refl, ap, sym, subst, ◌∙◌, arith, ◌==◌, slice_get, slice_index, take, reverse, if◌then◌else◌}
+use Rattle.std.proofs.Common.{◌≡◌, ℕ, ◌<◌, ◌≤◌, ◌^◌, ◌⊎◌, inl, inr, Bool, true, false, List, [], ◌∷◌, ◌++◌, length, Some, refl, ap, sym, subst, ◌∙◌, arith, ◌==◌, slice_get, slice_index, if◌then◌else◌}
 use Rattle.std.proofs.lemmas.{Bool.Decides.nat_tests, Option.get_or_from_slice_get}
 use Rattle.lists.proofs.{ListLaws.same_some, TestLaws.{first_true, second_true}}
-use Rattle.jvm_types.specs.{CodeTable.{arguments, is_init}, Members.{MethodSite, is_static}, Numbers.has_number, ProgramInvariant.{IsProgram, IsClassOf, site_in}}
+use Rattle.jvm_types.specs.{CodeTable.{arguments, is_init}, Members.{MethodSite, is_static}, Numbers.has_number, ProgramInvariant.{IsClassOf, site_in}}
 use Rattle.jvm_types.specs.{Verifying.{IsLaidOut, edges, frame_after, FrameFits}, declared.{class_numbers.TheConstants.{OBJECT_CLASS, PRINT_STREAM_CLASS}, code.{Insn.Insn, Op.Op}, op_row.Given.Given}}
 use Rattle.jvm_types.specs.declared.{op_row.{Given.TheVariants.Fresh, OpRow.OpRow, Want.Want}, program.{FieldInfo.FieldInfo, MethodInfo.MethodInfo, Program.Program, Target.Target}, typing.VType.VType}
 use Rattle.jvm_types.specs.declared.typing.VType.TheVariants.{Ref, New}
 use Rattle.laws_programs.{specs.{EntryLaws.receiver_count, TargetLaws.HasRow}, proofs.{CodeOrder.class_of_the_new, EdgeTargets.lands, FieldOrder.{statics_inside, instances_inside}}}
 use Rattle.checked_program.{specs.{CheckedLaws.receiver_want, MarkedProgram.{MarkedProgram, IsMarked, checked_part}, TaggedCode.row_of}, proofs.{CheckedPlaces.called_fit_all, FewFields.few_fields}}
 use Rattle.laws_sections.proofs.HiddenThis.{long_arguments}
-use Rattle.machine_types.specs.{Effects.effect, Frames.{Top, effect_at, first_or_null}, Lawful.within, ReadyObjects.out_object, Standing.Standing, Threads.Frame, Typed.{Classes, IsNullOr, FrameHolds}}
+use Rattle.machine_types.specs.{Effects.effect, Frames.{Top, effect_at}, Lawful.within, ReadyObjects.out_object, Standing.Standing, Threads.Frame, Typed.{Classes, IsNullOr, FrameHolds}}
 use Rattle.machine_types.specs.{Words.variable_word, declared.effect.Effect.Effect}
 use Rattle.machine_types.specs.declared.effect.Effect.TheVariants.{Goes, Throws, Reads, Writes, Raises, Makes, Prints, Calls, Returns, Leaves, Stuck}
-use Rattle.machine_types.specs.declared.effect.Variable.{Variable, TheVariants.{Instance, Static}}
+use Rattle.machine_types.specs.declared.effect.Variable.{Variable}
 use Rattle.laws_threads.specs.{Allowed.{IsOf, IsNamedField, WantHolds, TakenHold, OneOf, MadeAs, Allowed}, TopFrames.{GoesTo, IsReference, CallFits, MakesFit, IsAllowed, EffectsAreAllowed}}
 use Rattle.laws_threads.proofs.{Allowed.{MakesAt, below_args, effect_allowed}, Calls.{CallRow, call_row, takes_arguments, HasReceiver, call_receiver, receiver_first}}
 use Rattle.laws_threads.proofs.{Landing.{laid_at, rules_at, stand_top}, Standings.top_here, TopStand.row_here, Typing.{operands, edge_at}, Values.ValuesHold}

@@ -1,5 +1,5 @@
 -- How a thread goes on from an event: to its next instruction, to another turn, or to the limit that it made.
-use Rattle.std.proofs.Common.{◌≡◌, ℕ, ◌+◌, ◌<◌, Bool, true, false, cond, List, [], length, ap, arith, Option, Some, None, refl, sym, ◌∙◌, subst, nat_lt}
+use Rattle.std.proofs.Common.{◌≡◌, ℕ, ◌+◌, ◌<◌, Bool, cond, List, [], length, ap, arith, Option, Some, None, refl, sym, ◌∙◌, subst, nat_lt}
 use Rattle.checked_program.specs.MarkedProgram.{MarkedProgram}
 use Rattle.machine_types.specs.{Elision.fails, Going.{with_phase, runs, failed_turn}, HeldMonitors.held_at, Structure.{CountsTurns, IsPhaseInside, Stands, AttemptStands, AttemptStandsIn}}
 use Rattle.machine_types.specs.{Threads.{Frame, Attempt, Thread}, declared.{lock.Held.Held, phase.Phase.Phase}}

@@ -1,5 +1,5 @@
 -- Typed frames stay typed as the top one goes on, waits at a call, is given the result of one, or catches an exception.
-use Rattle.std.proofs.Common.{◌≡◌, ℕ, inl, inr, Bool, true, false, cond, not, ◌||◌, ◌&&◌, List, [], ◌∷◌, ◌++◌, length, Option, Some, None, refl, ap, sym, subst, ◌∙◌, ◌==◌, map, drop, if◌then◌else◌}
+use Rattle.std.proofs.Common.{◌≡◌, ℕ, inr, Bool, true, false, cond, not, ◌||◌, ◌&&◌, List, [], ◌∷◌, ◌++◌, length, Option, Some, None, refl, ap, sym, subst, ◌∙◌, ◌==◌, map, drop, if◌then◌else◌}
 use Rattle.std.{specs.{List.{AllZip, AllByRecursion, find}, Option.{option_to_list, option_map}}, proofs.lemmas.Bool.or_parts}
 use Rattle.jvm_types.specs.{ClassTree.is_subclass, CodeTable.{type_of, can_throw, result_of, value_of, stack_after, locals_after}, Types.{TypeFrame, is_below}}
 use Rattle.jvm_types.specs.Verifying.{edges, is_return, suits, some_taken, some_read, started, frame_after, frame_at_handler, caught_class, covers, covering}
@@ -8,7 +8,7 @@ use Rattle.jvm_types.specs.declared.{program.Row.Row, typing.VType.{VType, TheVa
 use Rattle.laws_programs.{specs.RuleLaws.{ReturnsWell, ReturnsTop}, proofs.LocalGoing.at_index}
 use Rattle.checked_program.specs.{LockTags.IsShapeBelow, MarkedProgram.{MarkedProgram, IsMarked}, Marks.called_method, TaggedCode.row_of, Tagging.{tags_after, tags_at_handler, catches_all, until_all}}
 use Rattle.checked_program.proofs.CheckedPlaces.{catchers_among}
-use Rattle.machine_types.specs.{Frames.{frame_on, given_back, handler_of}, Standing.Standing, Threads.Frame, Typed.{Classes, Holds, FrameHolds, WaitHolds}}
+use Rattle.machine_types.specs.{Frames.{frame_on, given_back, handler_of}, Threads.Frame, Typed.{Classes, Holds, FrameHolds, WaitHolds}}
 use Rattle.laws_threads.{specs.Allowed.{OneOf, HasRowTypes}, proofs.{Callers.{handler_in, call_edge}, Calls.CallRow, Landing.{rules_at, tag_rules_at, land}}}
 use Rattle.laws_threads.proofs.{Standings.stands_too, Typing.{all_at, start_holds, started_frame, values_after}, Values.{ValuesHold, holds_below, rest_holds}}
 use Rattle.laws_threads.proofs.Tests.{either_way}
