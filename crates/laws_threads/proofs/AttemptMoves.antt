@@ -26,11 +26,6 @@ next_edge insn e = subst (λ b. has_number (branches_to insn.op ++ (if b then in
 
 -- ---- frames come and go
 
--- with other frames inside, and so many entries
-pub stands_inner : (c : MarkedProgram) (phase other : Phase) (fs gs : List Frame) (held : List Held) (a : Attempt) (n : ℕ) → AttemptStands c phase fs held a → IsPhaseInside a.monitor other → a.base < length gs → put_back a gs ≡ put_back a fs → RunsSection c a (frames_inside a gs)
-    → AttemptStands c other gs held (record a { inner = n })
-stands_inner c phase other fs gs held a n k inside based same runs = stands_on c phase other fs gs held a n k inside based same (inr runs)
-
 -- another top frame in place of one
 pub put_back_top : (a : Attempt) (f g : Frame) (below : List Frame) → a.base ≤ length below → put_back a (g ∷ below) ≡ put_back a (f ∷ below)
 put_back_top a f g below l = put_back_over a g below l ∙ sym (put_back_over a f below l)
@@ -45,7 +40,7 @@ module _ (c : MarkedProgram) (marked : IsMarked c) (phase : Phase) (f : Frame) (
   pub along : (below : List Frame) (other : Phase) (k : AttemptStands c phase (f ∷ below) held a) (r : Runs c a f (frames_inside a below)) (g : Frame) (l : Standing c g) (h : TagShape) → g.method ≡ f.method → g.receiver ≡ f.receiver
       → Goes c.program r.stands.method r.stands.insn r.stands.target r.stands.tags l.insn h → IsPhaseInside a.monitor other → (r.stands.insn.op ≡ ops.Monitorexit → ⊥) → AttemptStands c other (g ∷ below) held a
   along below other k r g l h same_method same_receiver goes inside never = ⊎_elim
-      (λ (runs : RunsSection c a (g ∷ frames_inside a below)). stands_inner c phase other (f ∷ below) (g ∷ below) held a a.inner k inside k.based (put_back_top a f g below (base_below a f below k.based)) (subst (RunsSection c a) (sym (one_more a g below (base_below a f below k.based))) runs))
+      (λ (runs : RunsSection c a (g ∷ frames_inside a below)). stands_on c phase other (f ∷ below) (g ∷ below) held a a.inner k inside k.based (put_back_top a f g below (base_below a f below k.based)) (inr (subst (RunsSection c a) (sym (one_more a g below (base_below a f below k.based))) runs)))
       (λ (x : (frames_inside a below ≡ []) × IsExitOf c marked a f r.stands). absurd (never x.1.exits))
       (moved c marked a f g (frames_inside a below) r l h same_method same_receiver goes)
 
@@ -95,8 +90,8 @@ module _ (c : MarkedProgram) (marked : IsMarked c) (phase : Phase) (f : Frame) (
           let falls : falls_through kb.insn.op ≡ true = call_falls kb.insn.op x.1.call.target f.method call in
           let edge : has_number (edges kb.insn) l.insn.pc ≡ true = subst (λ pc. has_number (edges kb.insn) pc ≡ true) (sym l.pc_is) (next_edge kb.insn falls) in
           ⊎_elim
-          (λ (runs : RunsSection c a (g ∷ frames_inside a more)). stands_inner c phase phases.Run (f ∷ b ∷ more) (g ∷ more) held a n k tt (omega (arith, low))
-          (put_back_over a g more low ∙ sym (put_back_over a f (b ∷ more) (omega (arith, low)) ∙ put_back_over a b more low)) (subst (RunsSection c a) (sym (one_more a g more low)) runs))
+          (λ (runs : RunsSection c a (g ∷ frames_inside a more)). stands_on c phase phases.Run (f ∷ b ∷ more) (g ∷ more) held a n k tt (omega (arith, low))
+          (put_back_over a g more low ∙ sym (put_back_over a f (b ∷ more) (omega (arith, low)) ∙ put_back_over a b more low)) (inr (subst (RunsSection c a) (sym (one_more a g more low)) runs)))
           (λ (y : (frames_inside a more ≡ []) × IsExitOf c marked a b kb). absurd (no_exit kb.insn.op x.1.call.target f.method call y.1.exits))
           (moved c marked a b g (frames_inside a more) x.1.runs l (tags_after kb.insn (row_of c.program kb.method kb.insn kb.target) kb.tags) refl refl (onward l.insn edge))
 
@@ -105,4 +100,4 @@ module _ (c : MarkedProgram) (marked : IsMarked c) (phase : Phase) (f : Frame) (
   unwound_on (b ∷ more) n o class k r never =
       let low = not_base b more (base_below a f (b ∷ more) k.based) never in
       let x = below_is b more low r in
-      stands_inner c phase (phases.Throw o class) (f ∷ b ∷ more) (b ∷ more) held a n k tt (omega (arith, low)) (sym (put_back_over a f (b ∷ more) (omega (arith, low)))) (subst (RunsSection c a) (sym (one_more a b more low)) (section_of_runs c a b (frames_inside a more) x.1.runs))
+      stands_on c phase (phases.Throw o class) (f ∷ b ∷ more) (b ∷ more) held a n k tt (omega (arith, low)) (sym (put_back_over a f (b ∷ more) (omega (arith, low)))) (inr (subst (RunsSection c a) (sym (one_more a b more low)) (section_of_runs c a b (frames_inside a more) x.1.runs)))

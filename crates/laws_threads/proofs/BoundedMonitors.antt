@@ -20,14 +20,11 @@ LockFits (locks.Held u) = u ≤ MOST_WORKERS
 LockFits (locks.Flagged u) = Unit {0}
 LockFits (locks.Fat r) = r < MONITOR_RECORDS
 
-pub lock_fits : (word : ℕ) → is_lock_word word ≡ true → HasCount (lock_of word) → LockFits (lock_of word)
-lock_fits word e h = by_kind (word % 4) (word / 4) e h
-  where
-    by_kind : (kind upper : ℕ) → is_lock_by kind upper ≡ true → HasCount (lock_by kind upper) → LockFits (lock_by kind upper)
-    by_kind zero n e h = h
-    by_kind (suc zero) n e h = grind (arith, nat_tests, e)
-    by_kind (suc (suc zero)) n e h = let few : n ≤ 9 = grind (arith, nat_tests, (both_are_true (nat_lt 0 n) (nat_le n 9) e).1) in omega arith
-    by_kind (suc (suc (suc kind))) n e h = tt
+pub lock_fits : (kind upper : ℕ) → is_lock_by kind upper ≡ true → HasCount (lock_by kind upper) → LockFits (lock_by kind upper)
+lock_fits zero n e h = h
+lock_fits (suc zero) n e h = grind (arith, nat_tests, e)
+lock_fits (suc (suc zero)) n e h = let few : n ≤ 9 = grind (arith, nat_tests, (both_are_true (nat_lt 0 n) (nat_le n 9) e).1) in omega arith
+lock_fits (suc (suc (suc kind))) n e h = tt
 
 -- ---- what is held
 

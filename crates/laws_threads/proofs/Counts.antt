@@ -1,4 +1,5 @@
 -- Lists with the same counts are as long as one another.
+use Rattle.std.proofs.lemmas.List.{length-append, length-replicate}
 use Rattle.std.proofs.Common.{◌≡◌, ℕ, zero, suc, ◌+◌, ◌<◌, Bool, List, [], ◌∷◌, ◌++◌, length, replicate, refl, sym, ap, ◌∙◌, subst, arith, ◌==◌, if◌then◌else◌}
 use Rattle.std.proofs.lemmas.Bool.Decides.{nat_tests}
 use Rattle.machine_types.specs.Structure.{count_in, once_at}
@@ -34,10 +35,6 @@ count_more : (m x k : ℕ) (xs : List ℕ) → count_in m (replicate k x ++ xs) 
 count_more m x zero xs = grind (arith, nat_tests)
 count_more m x (suc k) xs = grind (arith, nat_tests, count_more m x k xs)
 
-length_more : (x k : ℕ) (xs : List ℕ) → length (replicate k x ++ xs) ≡ k + length xs
-length_more x zero xs = omega arith
-length_more x (suc k) xs = let r = length_more x k xs in omega (arith, r)
-
 -- one list has an item so many times more
 pub longer_by : (xs ys : List ℕ) (x k : ℕ) → ((m : ℕ) → count_in m xs ≡ (if x == m then k else 0) + count_in m ys) → length xs ≡ k + length ys
-longer_by xs ys x k e = same_length (length xs) xs (replicate k x ++ ys) refl (λ m. e m ∙ sym (count_more m x k ys)) ∙ length_more x k ys
+longer_by xs ys x k e = same_length (length xs) xs (replicate k x ++ ys) refl (λ m. e m ∙ sym (count_more m x k ys)) ∙ (omega (arith, length-append (replicate k x) ys, length-replicate {A = ℕ} k x))

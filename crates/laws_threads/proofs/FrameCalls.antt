@@ -1,5 +1,7 @@
 -- A call: the caller waits, and the called method begins.
-use Rattle.std.proofs.Common.{◌≡◌, ℕ, zero, suc, ◌-◌, ◌≤◌, Bool, true, false, cond, List, [], ◌∷◌, ◌++◌, drop, take, reverse, length, replicate, Some, inl, refl, sym, ap, ◌∙◌, subst, arith, slice_get}
+use Rattle.laws_threads.proofs.{Callers.row_of_call, Calls.takes_arguments}
+use Rattle.laws_programs.specs.EntryLaws.{receiver_count}
+use Rattle.std.proofs.Common.{◌≡◌, ℕ, if◌then◌else◌, zero, suc, ◌-◌, ◌≤◌, Bool, true, false, cond, List, [], ◌∷◌, ◌++◌, drop, take, reverse, length, replicate, Some, inl, refl, sym, ap, ◌∙◌, subst, arith, slice_get}
 use Rattle.std.proofs.lemmas.List.{length-append, length-replicate}
 use Rattle.lists.proofs.{ListLaws.same_some, StackLaws.reverse_cons}
 use Rattle.jvm_types.specs.{CodeTable.arguments, Members.{MethodSite, is_static, is_synchronized}, ProgramInvariant.site_in, declared.{code.Op.Op, op_row.{OpRow.OpRow, Want.Want}}}
@@ -33,17 +35,6 @@ entry_values choice false n (a ∷ args) some =
     (refl, untagged_values choice a (n - 1) (args ++ replicate (n - suc (length args)) 0) (let all = length-append args (replicate (n - suc (length args)) 0) in let more = length-replicate {A = ℕ} (n - suc (length args)) 0 in omega (arith, all, more)))
 
 -- ---- the arguments of a call
-
-takes_some : (p : Program) (site : MethodSite) (pc : ℕ) (op : Op) (target : Target) (r : OpRow) (number : ℕ) (called : MethodInfo) → called_method op target ≡ Some number → slice_get p.methods number ≡ Some called → is_static called.flags ≡ false
-    → HasRow p site pc target op r → (n : ℕ) × (length r.takes ≡ suc n)
-takes_some p site pc (ops.Invokevirtual i) (targets.Method u) r number called e d s h =
-    (length (arguments h.method), ap (λ (x : OpRow). length x.takes) h.its ∙ length-append (arguments h.method) _ ∙ (omega arith))
-takes_some p site pc (ops.Invokespecial i) (targets.Method u) r number called e d s h =
-    (length (arguments h.method), ap (λ (x : OpRow). length x.takes) h.its ∙ length-append (arguments h.method) _ ∙ (omega arith))
-takes_some p site pc (ops.Invokestatic i) (targets.Method u) r number called e d s h =
-    let same : h.method ≡ called = same_some (sym h.there ∙ ap (slice_get p.methods) (same_some e) ∙ d) in
-    absurd (let bad : true ≡ false = sym h.sort ∙ ap (λ (m : MethodInfo). is_static m.flags) same ∙ s in cc)
-takes_some p site pc op target r number called e d s h = absurd (cc)
 
 top_behind : (xs : List ℕ) (x : ℕ) → HasTop (xs ++ x ∷ [])
 top_behind [] x = tt
@@ -94,10 +85,10 @@ module _ (c : MarkedProgram) (is : IsMarked c) where
   called_frames f below own rest top b number called a d =
       let k = top.stands in
       let same : a.called ≡ called = same_some (sym a.there ∙ d) in
-      let some : is_static called.flags ≡ false → HasTop (reverse (take (length (row_at c f k).takes) f.stack)) =
-      (λ s.
-      let n = takes_some c.program (site_in k.method) k.insn.pc k.insn.op k.target (row_at c f k) number called a.names d s (rules_at c is f k).has_row in
-      some_taken n.0 (row_at c f k).takes f.stack n.1 (a.receiver (ap (λ (m : MethodInfo). is_static m.flags) same ∙ s))) in
+      let count = takes_arguments called (row_at c f k) (row_of_call c is f k number called a.names d) in
+      let some : is_static called.flags ≡ false → HasTop (reverse (take (length (row_at c f k).takes) f.stack)) = λ s.
+      let one : receiver_count called ≡ 1 = ap (λ b. if b then 0 else 1) s in
+      some_taken (length called.args) (row_at c f k).takes f.stack (omega (arith, count, one)) (a.receiver (ap (λ (m : MethodInfo). is_static m.flags) same ∙ s)) in
       (own_entry c.program called (callee_frame c.program (top_by c is f below k) number called), own ++ rest, refl, entry_shows number called (reverse (take (length (row_at c f k).takes) f.stack)) d some, (own, rest, refl, waits f own top number a.names, b))
 
 -- ---- the laws

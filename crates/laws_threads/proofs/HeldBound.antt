@@ -1,4 +1,5 @@
 -- A thread holds no more monitors than its frames show entries, and each frame shows no more than its method and its held tags.
+use Rattle.laws_threads.proofs.ShownLengths.{shown_length}
 use Rattle.std.proofs.Common.{◌≡◌, ℕ, zero, suc, ◌+◌, ◌*◌, ◌<◌, ◌≤◌, Bool, false, cond, List, [], ◌∷◌, map, length, Option, Some, None, refl, ap, ◌∙◌, subst, arith, length-append, ◌==◌, slice_get}
 use Rattle.std.proofs.{Math.Nat.{le-max_left, le-max_right}, lemmas.{Bool.Decides.nat_tests, List.length-map}}
 use Rattle.jvm_types.specs.{Members.is_synchronized, declared.{limits.TheConstants.MOST_FRAMES}}
@@ -50,10 +51,7 @@ module _ (c : MarkedProgram) where
   frame_few : (operands : Operands) (f : Frame) (own : List ℕ) → Shows c operands f own → length own ≤ 1 + most
   frame_few operands f own s =
       let held : length s.stands.tags.held ≤ most = in_tags f.method s.stands.number c.tags s.stands.at.frames s.stands.tags s.stands.at.of_method s.stands.at.frame in
-      let one : length (own_entry c.program s.stands.method f) ≤ 1 = either_way (λ (b : Bool). length (cond b (monitor_of c.program s.stands.method f ∷ []) []) ≤ 1) (is_synchronized s.stands.method.flags) (omega arith) (omega arith) in
-      let long : length own ≡ length (map (tag_value s.choice f.receiver) s.stands.tags.held) + length (own_entry c.program s.stands.method f) = ap (length {A = ℕ}) s.shown_are ∙ length-append (map (tag_value s.choice f.receiver) s.stands.tags.held) (own_entry c.program s.stands.method f) in
-      let mapped : length (map (tag_value s.choice f.receiver) s.stands.tags.held) ≡ length s.stands.tags.held = length-map s.stands.tags.held (tag_value s.choice f.receiver) in
-      omega arith
+      grind (arith, nat_tests, held, shown_length c operands f own s)
 
   product : (n k a b : ℕ) → a ≤ 1 + k → b ≤ n * (1 + k) → a + b ≤ suc n * (1 + k)
   product n k a b e f = grind arith

@@ -100,10 +100,6 @@ module _ (c : MarkedProgram) (marked : IsMarked c) (s : Thread) (at : Top) (t : 
   may_do : (a : Attempt) → s.attempt ≡ Some a → (e : Effect) → effect_at c.program at ≡ e → MayDo c a.monitor at e
   may_do a g e f = subst (λ (x : Effect). MayDo c a.monitor at x) f (inside_may c s.frames s.held a at marked (subst (λ (o : Option Attempt). AttemptStandsIn c phases.Run s.frames s.held o) g inside) (subst (λ (o : Option Attempt). Stands c phases.Run s.frames s.held o) g k) t)
 
-  unless_inside : (e : Effect) → effect_at c.program at ≡ e → ((m : ℕ) → MayDo c m at e → ⊥) → (o : Option Attempt) → s.attempt ≡ o → o ≡ None
-  unless_inside e f never None g = refl
-  unless_inside e f never (Some a) g = absurd (never a.monitor (may_do a g e f))
-
   along : (e : Effect) → effect_at c.program at ≡ e → GoesAlong at.insn e
   along (effects.Goes to v) f = (follow_law c s.frames k.shown at to marked t k.show (ap (goes_to at.insn.next) f)).1
   along e f = tt
@@ -127,7 +123,7 @@ module _ (c : MarkedProgram) (marked : IsMarked c) (s : Thread) (at : Top) (t : 
       (threw_inside x s.attempt (subst (λ (fs : List Frame). AttemptStandsIn c (phases.Throw (ready x) x) fs s.held s.attempt) (tops_stand_law c s.frames Whole k.shown at marked k.show t).1.frames (stays_in c (phases.Throw (ready x) x) s.frames s.held s.attempt (λ m. tt) inside)))
 
   none_by : (e : Effect) → effect_at c.program at ≡ e → ((m : ℕ) → MayDo c m at e → ⊥) → s.attempt ≡ None
-  none_by e f never = unless_inside e f never s.attempt refl
+  none_by e f never = (elim s.attempt as (λ o. s.attempt ≡ o → o ≡ None) [ None ↦ λ g. refl | Some a ↦ λ g. absurd (never a.monitor (may_do a g e f)) ]) refl
 
   pub does : (e : Effect) (got : ℕ) (onward : Onward) → effect_at c.program at ≡ e → done c.program at e got ≡ Some onward → StaysStructured c was (goes_on s onward)
   does e got onward f d = subst (λ (o : Option Onward). StaysStructured c was (goes_on_if s o)) d (step e f got)

@@ -1,5 +1,5 @@
 -- An event keeps the numbers of a thread within their bounds.
-use Rattle.std.proofs.Common.{◌≡◌, ℕ, zero, suc, ◌+◌, ◌≤◌, Bool, true, List, [], ◌∷◌, Option, Some, None, refl, sym, subst, ◌<◌, ◌∙◌, arith, ap, if◌then◌else◌, option_map, slice_get, find, IfSome}
+use Rattle.std.proofs.Common.{◌≡◌, ℕ, ◌/◌, ◌%◌, zero, suc, ◌+◌, ◌≤◌, Bool, true, List, [], ◌∷◌, Option, Some, None, refl, sym, subst, ◌<◌, ◌∙◌, arith, ap, if◌then◌else◌, option_map, slice_get, find, IfSome}
 use Rattle.std.{specs.{List.{AllByRecursion, range_with_len}, Prelude.unwrap_or}, proofs.lemmas.Bool.Decides.nat_tests}
 use Rattle.lists.proofs.ListLaws.{same_some}
 use Rattle.jvm_types.specs.{Numbers.has_flag, declared.{limits.TheConstants.MOST_WORKERS, outcome.{End.End, Thrown.TheVariants.StackOverflowError}, program.Program.Program}}
@@ -31,9 +31,6 @@ has_done p at (Raises x) got a w = w.1
 has_done p at (Calls number) got a w = (a.called, a.there)
 has_done p at Stuck got a w = absurd a
 has_done p at e got a w = tt
-
-lock_found : (got : ℕ) → (is_lock_word got ≡ true) × HasCount (lock_of got) → LockFits (lock_of got)
-lock_found got w = lock_fits got w.0 w.1
 
 -- threads that wait have numbers up to that of the last worker
 lowest_few : (bits : ℕ) → lowest_of bits ≤ MOST_WORKERS
@@ -136,8 +133,8 @@ module _ (c : MarkedProgram) (s : Thread) (got : ℕ) where
   less k = spends_less s 0 2 0 1 k (omega arith) (omega arith)
 
   lock_at : (m : ℕ) (phase : Phase) → Looks s m phase → WordFits c.program (content_at c s phase) got → LockFits (lock_of got)
-  lock_at m _ (moves.entering tried free) w = lock_found got w
-  lock_at m _ moves.acquiring w = lock_found got w
+  lock_at m _ (moves.entering tried free) w = lock_fits (got % 4) (got / 4) w.0 w.1
+  lock_at m _ moves.acquiring w = lock_fits (got % 4) (got / 4) w.0 w.1
 
   kept_at : (m : ℕ) (h : Held) → held_at s.held m ≡ Some h → Fit c.program s → KeptFits h.kept
   kept_at m h there f = at_found (λ h. KeptFits h.kept) (held_at s.held m) h there (found_held (λ h. KeptFits h.kept) m s.held f.held.kept)

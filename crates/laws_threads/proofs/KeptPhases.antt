@@ -140,11 +140,8 @@ module _ (c : MarkedProgram) (marked : IsMarked c) (is : Classes) (has : HasObje
 
   module _ (s : Thread) (got : ℕ) (was : Phase) (t : IsTypedIn c is s got was) where
     -- another list of held monitors, other counts
-    rests_held : (held : List Held) (counts : Counts) → Rests c is (record s { held = held; counts = counts })
-    rests_held held counts = record { attempt = t.rests.attempt; inside = t.rests.inside; entry = t.rests.entry }
-
     runs_held : (held : List Held) (counts : Counts) → FramesHold c is s.frames → TypedBy c is (runs (record s { held = held; counts = counts }))
-    runs_held held counts h = runs_typed c is (record s { held = held; counts = counts }) h (rests_held held counts)
+    runs_held held counts h = runs_typed c is (record s { held = held; counts = counts }) h (record { attempt = t.rests.attempt; inside = t.rests.inside; entry = t.rests.entry })
 
     -- behind a monitor
     leaves_typed : (m : ℕ) (a : After) → AfterHolds c is a s.frames → AfterShows c m a s.frames → (held : List Held) (attempt : Option Attempt) (counts : Counts)
@@ -171,10 +168,8 @@ module _ (c : MarkedProgram) (marked : IsMarked c) (is : Classes) (has : HasObje
   -- ---- all moves
 
   module _ (s : Thread) (got : ℕ) where
-    abbrev Becomes : (was : Phase) → Move c s got was → Type 0
-    Becomes was k = IsTypedIn c is s got was → StartTyped c is s was → IsBasedIn (becomes c s got was k).frames (becomes c s got was k).attempt → TypedBy c is (becomes c s got was k)
-
-    move_typed : (was : Phase) (k : Move c s got was) → Becomes was k
+    move_typed : (was : Phase) (k : Move c s got was) → IsTypedIn c is s got was → StartTyped c is s was → IsBasedIn (becomes c s got was k).frames (becomes c s got was k).attempt
+        → TypedBy c is (becomes c s got was k)
     move_typed was (moves.stays k) t start new = t.stays
     move_typed was (moves.goes o k) t start new = goes_typed c is s o (goes_holds s got was o k t) t.rests t.based new
     move_typed was (moves.fails_in x e d k) t start new = fails_typed c is s x e t.rests
@@ -184,13 +179,10 @@ module _ (c : MarkedProgram) (marked : IsMarked c) (is : Classes) (has : HasObje
         let k = makes_at c marked is has got word size s.frames at t.holds found e in
         record {
           values = record { phase = k.holds; attempt = carries c is s.attempt s.frames (making c.program at) k.keeps t.based new t.rests.attempt };
-          new = inside k.least fits;
+          new = grind (arith, nat_tests, k.least, fits);
           receivers = k.inside t.rests.inside;
           entry = t.rests.entry;
         }
-      where
-        inside : 2 ≤ size → nat_le (got + size) c.program.heap ≡ true → got < c.program.heap
-        inside two e = grind (arith, nat_tests, two, e)
     move_typed _ (moves.prints at n found e y) t start new =
         goes_typed c is (printed s got n) (Running (went_on c.program at 0)) (prints_at c marked is has n s.frames at t.holds found e) (record { attempt = t.rests.attempt; inside = t.rests.inside; entry = t.rests.entry }) t.based new
     move_typed _ (moves.asks_to_wait at m h now found e l k) t start new = let on = waits_at c marked is has m s.frames at t.holds found e in

@@ -197,13 +197,8 @@ module _ (c : MarkedProgram) (s : Thread) (got : ℕ) (h : IsRooted c.program s)
   moved_framed _ (moves.leaves_outer m a e l t) f = left_framed (with_held (shallower e) s.held) s.attempt s.counts a (frame_in (phases.Leave m a) s.frames s.roots tt f)
   moved_framed _ (moves.leaves_inside m a t inner k e) f = left_framed s.held (Some (record t { inner = inner })) s.counts a (frame_in (phases.Leave m a) s.frames s.roots tt f)
   moved_framed _ (moves.finishes_try m a t k e y) f = left_framed s.held None (record s.counts { elided = s.counts.elided + 1 }) a (frame_in (phases.Leave m a) s.frames s.roots tt f)
-  moved_framed _ (moves.fattens_lock m r toward e l) f = record {
-    roots = h.roots;
-    frames = elim toward as (λ to. FramesFit (grown m r to) s.frames s.roots) [
-      | towards.Leave a ↦ framed (phases.Leave m a) s.frames s.roots tt (frame_in (phases.FatIn m r toward) s.frames s.roots tt f)
-      | towards.Wait ↦ framed (phases.WaitBit m r) s.frames s.roots tt (frame_in (phases.FatIn m r toward) s.frames s.roots tt f)
-    ];
-  }
+  moved_framed _ (moves.fattens_lock m r toward e l) f = record { roots = h.roots; frames = framed (grown m r toward) s.frames s.roots
+      (elim toward as (λ to. IsNoStart (grown m r to)) [ towards.Leave a ↦ tt | towards.Wait ↦ tt ]) (frame_in (phases.FatIn m r toward) s.frames s.roots tt f) }
   moved_framed _ (moves.gives_up_to_wait m r e l) f = record { roots = h.roots; frames = framed (phases.WaitLook m r e.depth) s.frames s.roots tt (frame_in (phases.WaitOut m r) s.frames s.roots tt f) }
   moved_framed _ (moves.starts number roots e) f = subst (IsRooted c.program) (ap (thread_started c.program s) e) (begun_root c.program s s.roots h.roots f)
   moved_framed was k f = record { roots = h.roots; frames = runs_framed was tt f }

@@ -24,18 +24,12 @@ module _ (c : MarkedProgram) (marked : IsMarked c) where
 
   -- ---- what holds there
 
-  pub types_at : (number : ℕ) (m : MethodInfo) (frames : List (Option TypeFrame)) → slice_get c.program.methods number ≡ Some m → slice_get (map (λ t. t.frames) c.typings) number ≡ Some frames
-      → (typing : Typing) × (slice_get c.typings number ≡ Some typing) × (frames ≡ typing.frames) × AreFramesOf c.program m typing
-  types_at number m frames e t =
-      let s = checked_sound (checked_part c) number m marked.checked e in
-      let there = mapped_at (λ (t : Typing). t.frames) c.typings number frames t in
-      let same : there.0 ≡ s.0 = same_some (sym there.1 ∙ s.1) in
-      (s.0, s.1, sym there.2 ∙ ap (λ (t : Typing). t.frames) same, s.2)
-
   pub place_of : (f : Frame) (k : Standing c f) → IsPlace (checked_part c) k.method k.frames k.number k.insn k.target k.types
   place_of f k =
-      let t = types_at f.method k.method k.frames k.at.in_program k.types_of_method in
-      record { method = f.method; typing = t.0; in_program = k.at.in_program; its_typing = t.1; its_frames = t.2; in_code = k.at.in_code; its_target = k.at.names; has = k.types_are }
+      let t = checked_sound (checked_part c) f.method k.method marked.checked k.at.in_program in
+      let there = mapped_at (λ (t : Typing). t.frames) c.typings f.method k.frames k.types_of_method in
+      let same : there.0 ≡ t.0 = same_some (sym there.1 ∙ t.1) in
+      record { method = f.method; typing = t.0; in_program = k.at.in_program; its_typing = t.1; its_frames = sym there.2 ∙ ap (λ (t : Typing). t.frames) same; in_code = k.at.in_code; its_target = k.at.names; has = k.types_are }
 
   pub rules_at : (f : Frame) (k : Standing c f) → HoldsAtInstruction c.program k.method k.frames k.insn k.target k.types
   rules_at f k = places_hold_all (checked_part c) k.method k.frames k.number k.insn k.target k.types marked.checked (place_of f k)

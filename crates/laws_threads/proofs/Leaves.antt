@@ -1,13 +1,13 @@
 -- An attempt stands behind an exit of its monitor that is not the last one.
-use Rattle.std.proofs.Common.{◌≡◌, ⊎_elim, ℕ, suc, ◌+◌, Bool, List, [], ◌∷◌, length, Some, refl, sym, ap, ◌∙◌, subst, arith, option_map}
+use Rattle.std.proofs.Common.{inr, ◌≡◌, ⊎_elim, ℕ, suc, ◌+◌, Bool, List, [], ◌∷◌, length, Some, refl, sym, ap, ◌∙◌, subst, arith, option_map}
 use Rattle.lists.proofs.ListLaws.{same_some}
 use Rattle.jvm_types.specs.declared.code.Op.{Op}
 use Rattle.checked_program.specs.{LockTags.TagShape, MarkedProgram.{MarkedProgram, IsMarked}}
 use Rattle.machine_types.specs.{Frames.{top_of, given, given_back, returned}, Onward.{Onward, Running, back, unwound}}
 use Rattle.machine_types.specs.{Structure.{IsLeaving, Stands, AttemptStands, Finishes, frames_inside, operands_after, TopLeaves, count_in, held_depth, tried_depth}, Threads.{Frame, Attempt}}
 use Rattle.machine_types.specs.declared.{lock.Held.Held, phase.After.After}
-use Rattle.laws_threads.{specs.InsideMoves.{GoesOnInside, OnwardStands, LeavesInside}, proofs.{AttemptMoves.{stands_inner, only_entry, returned_on, unwound_on}, Base.{entry_of, as_many, none_inside}}}
-use Rattle.laws_threads.proofs.{Inside.runs_inside, SectionFrames.Runs, FramePlaces.has_top, Standings.one_tags}
+use Rattle.laws_threads.{specs.InsideMoves.{GoesOnInside, OnwardStands, LeavesInside}, proofs.{AttemptMoves.{only_entry, returned_on, unwound_on}, Base.{entry_of, as_many, none_inside}}}
+use Rattle.laws_threads.proofs.{Inside.{runs_inside, stands_on}, SectionFrames.Runs, FramePlaces.has_top, Standings.one_tags}
 use Rattle.machine_types.specs.declared.phase.After.TheVariants as afters
 use Rattle.machine_types.specs.declared.phase.Phase.TheVariants as phases
 
@@ -21,7 +21,7 @@ module _ (c : MarkedProgram) (marked : IsMarked c) (m : ℕ) (e : After) (held :
   never_finished fs x = let last = x.outermost in omega (arith, last, inner)
 
   next : (fs : List Frame) (k : AttemptStands c (phases.Leave m e) fs held a) → GoesOnInside c (Running fs) held (record a { inner = n })
-  next fs k = stands_inner c (phases.Leave m e) phases.Run fs fs held a n k tt k.based refl (⊎_elim (λ x. absurd (never_finished (frames_inside a fs) x)) (λ x. x) k.frames)
+  next fs k = stands_on c (phases.Leave m e) phases.Run fs fs held a n k tt k.based refl (inr (⊎_elim (λ x. absurd (never_finished (frames_inside a fs) x)) (λ x. x) k.frames))
 
   -- behind a return or an exception the frame of the entry would leave the monitor for the last time
   not_entry : (f : Frame) (below : List Frame) (k : AttemptStands c (phases.Leave m e) (f ∷ below) held a) (s : Stands c (phases.Leave m e) (f ∷ below) held (Some a)) (r : Runs c a f (frames_inside a below)) → ((p : ℕ) → count_in p s.shown ≡ held_depth p held + tried_depth p (Some a)) → r.stands.tags.held ≡ [] → a.base ≡ length below → ⊥

@@ -30,17 +30,7 @@ module _ (is more : Classes) (up : (class v : ℕ) → is class v → more class
     }
 
     wait_up : (callee : ℕ) (f : Frame) → WaitHolds c is callee f → WaitHolds c more callee f
-    wait_up callee f w = record {
-      count = w.count;
-      holds = record {
-        stands = w.holds.stands;
-        stack = zip_up w.holds.stands.method (drop w.count w.holds.stands.types.stack) f.stack w.holds.stack;
-        locals = zip_up w.holds.stands.method w.holds.stands.types.locals f.locals w.holds.locals;
-        receiver = λ e. up w.holds.stands.method.class f.receiver (w.holds.receiver e);
-      };
-      calls = w.calls;
-      taken = w.taken;
-    }
+    wait_up callee f w = record { count = w.count; holds = frame_up w.count f w.holds; calls = w.calls; taken = w.taken }
 
     pub below_up : (callee : ℕ) (fs : List Frame) → HoldBelow c is callee fs → HoldBelow c more callee fs
     below_up callee [] b = b

@@ -1,5 +1,6 @@
 -- Items of lists, and lists whose items are related.
-use Rattle.std.{proofs.Common.{◌≡◌, ℕ, zero, suc, List, [], ◌∷◌, ◌++◌, length, Some, refl, ap, sym, subst, ◌∙◌, slice_get, map, reverse}, specs.List.{AllZip}}
+use Rattle.std.proofs.lemmas.{Option.slice_get-map, Slice.Zip.AllZip-long}
+use Rattle.std.{proofs.Common.{◌≡◌, ℕ, option_map, zero, suc, List, [], ◌∷◌, ◌++◌, length, Some, refl, ap, sym, subst, ◌∙◌, slice_get, map, reverse}, specs.List.{AllZip}}
 use Rattle.std.proofs.lemmas.List.{reverse-append, map-append, reverse-reverse}
 use Rattle.lists.proofs.ListLaws.{same_some}
 use Rattle.jvm_types.proofs.ScopeLaws.{zip_append}
@@ -13,9 +14,7 @@ mapped_at g (x ∷ xs) zero y e = (x, refl, same_some e)
 mapped_at g (x ∷ xs) (suc i) y e = mapped_at g xs i y e
 
 pub map_at : {A B : Type 0} (g : A → B) (xs : List A) (i : ℕ) (x : A) → slice_get xs i ≡ Some x → slice_get (map g xs) i ≡ Some (g x)
-map_at g [] i x e = absurd (cc)
-map_at g (y ∷ xs) zero x e = let e : y ≡ x = cc in ap (λ z. Some (g z)) e
-map_at g (y ∷ xs) (suc i) x e = map_at g xs i x e
+map_at g xs i x e = slice_get-map g xs i ∙ ap (option_map g) e
 
 -- ---- lists whose items are related
 
@@ -32,9 +31,7 @@ zip_has R (a ∷ xs) (b ∷ ys) zero x all e = (b, refl)
 zip_has R (a ∷ xs) (b ∷ ys) (suc i) x all e = zip_has R xs ys i x all.1 e
 
 pub zip_length : {A B : Type 0} (R : A → B → Type 0) (xs : List A) (ys : List B) → AllZip R xs ys → length xs ≡ length ys
-zip_length R [] [] f = refl
-zip_length R (x ∷ xs) (y ∷ ys) f = ap suc (zip_length R xs ys f.1)
-zip_length R xs ys f = absurd (assumption)
+zip_length R xs ys f = sym (AllZip-long R xs ys f)
 
 pub zip_reverse : {A B : Type 0} (R : A → B → Type 0) (xs : List A) (ys : List B) → AllZip R xs ys → AllZip R (reverse xs) (reverse ys)
 zip_reverse R [] [] f = f

@@ -1,5 +1,6 @@
 -- The frame of a root is typed: it is a static method that takes nothing or the number of the thread.
-use Rattle.laws_threads.proofs.Tests.{either_way}
+use Rattle.std.proofs.lemmas.Bool.{cond_both}
+use Rattle.laws_threads.proofs.{Tests.either_way, ThreadMove.if_either}
 use Rattle.std.proofs.Common.{◌≡◌, ℕ, zero, suc, ◌+◌, ◌<◌, ◌^◌, ◌⊎◌, inl, inr, Bool, true, false, ◌&&◌, ◌||◌, List, [], ◌∷◌, ◌++◌, length, Option, Some, None, refl, ap, sym, subst, ◌∙◌, arith, ◌==◌, nat_lt, codes, bytes_eq, slice_get, map, option_map, if◌then◌else◌, IsTrue}
 use Rattle.std.{specs.List.{AllZip, AllByRecursion}, proofs.lemmas.{Bool.Decides.nat_tests, Slice.Eq.bytes_eq-Decides}}
 use Rattle.lists.proofs.{ListLaws.same_some, TestLaws.{both_true, both_are_true, second_true}}
@@ -103,25 +104,17 @@ module _ (p : Program) (is : IsProgram p) where
 
 module _ (c : MarkedProgram) (marked : IsMarked c) (is : Classes) where
   root_values : (t number : ℕ) (m : MethodInfo) → t < 2 ^ 32 → IsSomeRoot m → slice_get c.program.methods number ≡ Some m → Onwards c is [] (rooted c.program t number m)
-  root_values t number m small root e = by_room (has_room c.program [] m)
+  root_values t number m small root e = if_either (Onwards c is []) (has_room c.program [] m) (Running (entry_frame number m (root_arguments t m) ∷ [])) (Uncaught StackOverflowError)
+      (record {
+        holds = (enters c marked is number m (root_arguments t m) e (static_values m is m number (root_arguments t m) (given root).0 (given root).1), tt);
+        keeps = λ base old new. absurd (omega (arith, old));
+        inside = λ all. (cond_both (is_static m.flags) 0 (first_or_null (root_arguments t m)) (λ n. n < c.program.heap) (λ s. omega (arith, marked.checked.program.heap_from)) (λ s. absurd (let g = (given root).0 in cc)), tt);
+      })
+      (record { holds = tt; keeps = keeps_none []; inside = λ all. tt })
     where
       given : IsSomeRoot m → (is_static m.flags ≡ true) × AllZip (Holds m is) (map type_of m.args) (root_arguments t m)
       given (inl r) = (r.static, subst (λ (args : List Kind). AllZip (Holds m is) (map type_of args) (if nat_lt 0 (length args) then t ∷ [] else [])) (sym r.args) tt)
       given (inr r) = (r.static, subst (λ (args : List Kind). AllZip (Holds m is) (map type_of args) (if nat_lt 0 (length args) then t ∷ [] else [])) (sym r.args) (small, tt))
-
-      inside : (b : Bool) → b ≡ true → (if b then 0 else first_or_null (root_arguments t m)) < c.program.heap
-      inside true s = omega (arith, marked.checked.program.heap_from)
-      inside false s = absurd (cc)
-
-      by_room : (b : Bool) → Onwards c is [] (if b then Running (entry_frame number m (root_arguments t m) ∷ []) else Uncaught StackOverflowError)
-      by_room true =
-          let g = given root in
-          record {
-            holds = (enters c marked is number m (root_arguments t m) e (static_values m is m number (root_arguments t m) g.0 g.1), tt);
-            keeps = λ base old new. absurd (omega (arith, old));
-            inside = λ all. (inside (is_static m.flags) g.0, tt);
-          }
-      by_room false = record { holds = tt; keeps = keeps_none []; inside = λ all. tt }
 
   pub starts_typed : (s : Thread) (roots : List ℕ) → s.frames ≡ [] → s.number < 2 ^ 32 → AllByRecursion (λ number. IsTrue (has_number (part_roots c.program s.number s.part) number)) roots → TypedBy c is s → Rests c is s
       → IsBasedIn s.frames s.attempt → IsBasedIn (thread_started c.program s roots).frames (thread_started c.program s roots).attempt → TypedBy c is (thread_started c.program s roots)

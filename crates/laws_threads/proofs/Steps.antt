@@ -12,7 +12,7 @@ use Rattle.machine_types.specs.{Words.{header_class, header_length}, declared.ef
 use Rattle.machine_types.specs.declared.effect.Effect.TheVariants.{Goes, Throws, Reads, Measures, Raises, Calls, Returns, Enters, Leaves}
 use Rattle.machine_types.specs.declared.phase.Phase.{Phase}
 use Rattle.laws_threads.specs.InsideMoves.{GoesOnInside, OnwardStands, GoesAlong, StepsInside, ReadsElement, ElementsInside}
-use Rattle.laws_threads.proofs.{AttemptMoves.{not_alone, next_edge, stands_inner, put_back_top, along, returned_on}, Base.{own_part, entry_of, as_many_at_exit, none_inside}}
+use Rattle.laws_threads.proofs.{AttemptMoves.{not_alone, next_edge, put_back_top, along, returned_on}, Base.{own_part, entry_of, as_many_at_exit, none_inside}}
 use Rattle.laws_threads.proofs.{CallOps.is_receiver, EffectOps.{Does, GoesElsewhere, goes_behind, OnlyLeaves, exit_leaves}, FrameReturns.leaves_none}
 use Rattle.laws_threads.proofs.FramesInside.{one_more, put_back_over, alone_inside}
 use Rattle.laws_threads.proofs.{Inside.{InAttempt, base_below, runs_inside, stands_on, stays, stack_this, top_shows, top_does, takes_owned, locking, calls_on, leaves_on, not_finished}, Leaves.lands}
@@ -120,7 +120,7 @@ module _ (c : MarkedProgram) (marked : IsMarked c) (thread : InAttempt c phases.
         let runs = invoked c marked a f caller g (frames_inside a below) r (stands_too c f caller.stack f.locals r.stands) l f.stack refl refl refl this d.0 receives in
         let over : a.base ≤ length (caller ∷ below) = omega (arith, low) in
         let frames : frames_inside a (g ∷ caller ∷ below) ≡ g ∷ caller ∷ frames_inside a below = one_more a g (caller ∷ below) over ∙ ap (λ fs. g ∷ fs) (one_more a caller below low) in
-        stands_inner c phases.Run other (f ∷ below) (g ∷ caller ∷ below) held a a.inner k inside (omega (arith, low)) (put_back_over a g (caller ∷ below) over ∙ put_back_top a f caller below low) (subst (RunsSection c a) (sym frames) runs)
+        stands_on c phases.Run other (f ∷ below) (g ∷ caller ∷ below) held a a.inner k inside (omega (arith, low)) (put_back_over a g (caller ∷ below) over ∙ put_back_top a f caller below low) (inr (subst (RunsSection c a) (sym frames) runs))
 
     invokes : OnwardStands c (called c.program top number callee) → GoesOnInside c (called c.program top number callee) held a
     invokes = if_either (λ o. OnwardStands c o → GoesOnInside c o held a) (has_room c.program (frames_of top) callee) (entered c.program callee g (waiting c.program top)) (threw StackOverflowError top)

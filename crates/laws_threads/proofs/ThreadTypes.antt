@@ -6,7 +6,7 @@ use Rattle.machine_types.specs.{Elision.{put_back, fails}, Going.{with_phase, ru
 use Rattle.machine_types.specs.{Onward.{Onward, Running, RootReturned}, Threads.{Frame, Attempt, Thread}}
 use Rattle.machine_types.specs.{Typed.{Classes, FramesHold, AttemptHolds, ThreadHolds, PhaseHolds, IsObject}, declared.phase.Phase.Phase}
 use Rattle.laws_threads.proofs.Onwards.{frames_then, Keeps, AreInside, Onwards, IfOnwards}
-use Rattle.laws_threads.proofs.Tests.{either_way}
+use Rattle.laws_threads.proofs.{Tests.either_way, ThreadMove.over_to}
 use Rattle.jvm_types.specs.declared.outcome.End.TheVariants as ends
 use Rattle.machine_types.specs.declared.phase.Phase.TheVariants as phases
 
@@ -56,11 +56,9 @@ module _ (c : MarkedProgram) (is : Classes) where
   pub goes_typed : (s : Thread) (o : Onward) → Onwards c is s.frames o → Rests c is s → IsBasedIn s.frames s.attempt → IsBasedIn (goes_on s o).frames (goes_on s o).attempt → TypedBy c is (goes_on s o)
   goes_typed s (Running fs) k r old new =
       runs_typed (record s { frames = fs }) k.holds (record { attempt = carries s.attempt s.frames fs k.keeps old new r.attempt; inside = k.inside r.inside; entry = r.entry })
-  goes_typed s RootReturned k r old new = by_roots s.roots
-    where
-      by_roots : (roots : List ℕ) → TypedBy c is (record s { frames = []; phase = root_over roots })
-      by_roots [] = record { values = record { phase = tt; attempt = carries s.attempt s.frames [] k.keeps old new r.attempt }; new = tt; receivers = tt; entry = r.entry }
-      by_roots (number ∷ roots) = record { values = record { phase = tt; attempt = carries s.attempt s.frames [] k.keeps old new r.attempt }; new = tt; receivers = tt; entry = r.entry }
+  goes_typed s RootReturned k r old new = over_to (λ phase. TypedBy c is (record s { frames = []; phase = phase })) s.roots
+      (λ e. record { values = record { phase = tt; attempt = carries s.attempt s.frames [] k.keeps old new r.attempt }; new = tt; receivers = tt; entry = r.entry })
+      (λ number rest e. record { values = record { phase = tt; attempt = carries s.attempt s.frames [] k.keeps old new r.attempt }; new = tt; receivers = tt; entry = r.entry })
   goes_typed s o k r old new = record { values = record { phase = k.holds; attempt = carries s.attempt s.frames (frames_then o) k.keeps old new r.attempt }; new = tt; receivers = k.inside r.inside; entry = r.entry }
 
   pub goes_if_typed : (s : Thread) (o : Option Onward) → TypedBy c is s → IfOnwards c is s.frames o → Rests c is s → IsBasedIn s.frames s.attempt → IsBasedIn (goes_on_if s o).frames (goes_on_if s o).attempt → TypedBy c is (goes_on_if s o)

@@ -1,5 +1,5 @@
 -- The frame after an instruction has the types that verification gives it: generic in the row.
-use Rattle.std.{proofs.Common.{◌≡◌, ℕ, inl, inr, Bool, true, false, not, List, [], ◌∷◌, Option, Some, None, refl, sym, subst, if◌then◌else◌}, specs.List.{AllZip, AllByRecursion}}
+use Rattle.std.{proofs.Common.{◌≡◌, ℕ, length, drop, inl, inr, Bool, true, false, not, List, [], ◌∷◌, Option, Some, None, refl, sym, subst, if◌then◌else◌}, specs.List.{AllZip, AllByRecursion}}
 use Rattle.std.proofs.lemmas.Bool.{or_parts}
 use Rattle.lists.proofs.TestLaws.{is_true}
 use Rattle.jvm_types.specs.Types.{TypeFrame, is_uninitialised, same_type}
@@ -8,7 +8,7 @@ use Rattle.jvm_types.specs.declared.{code.Insn.Insn, op_row.{OpRow.OpRow, Want.{
 use Rattle.jvm_types.{specs.declared.typing.VType.{VType, TheVariants.{Ref, This, New}}, proofs.TypeOrder.subclass_self}
 use Rattle.laws_programs.proofs.MonoTypes.{same_object}
 use Rattle.machine_types.specs.{Frames.frame_on, Threads.Frame, Typed.{Classes, IsMadeAt, Holds}}
-use Rattle.laws_threads.{specs.Allowed.{TakenHold, HasRowTypes, OneOf}, proofs.Values.{same_class, ValuesHold, taken_hold, moved_stack, moved_locals}}
+use Rattle.laws_threads.{specs.Allowed.{TakenHold, HasRowTypes, OneOf}, proofs.Values.{same_class, ValuesHold, taken_hold, rest_holds, stack_holds, locals_hold}}
 use Rattle.laws_threads.proofs.Tests.{either_way}
 
 -- what holds of each edge
@@ -24,9 +24,6 @@ module _ (m : MethodInfo) (is : Classes) where
   StartHolds None = Unit {0}
   StartHolds (Some object) = (is_uninitialised object.0 ≡ true) × ((v : ℕ) → Holds m is object.0 v → is object.1 v)
 
-  new_start : (class pc : ℕ) → is_class_of (new_class m.code m.targets pc) class ≡ true → (v : ℕ) → IsMadeAt m is pc v → is class v
-  new_start class pc h v k = subst (λ (c : ℕ). is c v) (sym (same_class (new_class m.code m.targets pc) k.0 class k.1 h)) k.2
-
   abbrev pub Suit : List Want → List VType → Type 0
   Suit wants ts = some_taken (λ want t. not (suits m want t)) wants ts ≡ false
 
@@ -38,8 +35,8 @@ module _ (m : MethodInfo) (is : Classes) where
   start_holds (ToStart class ∷ wants) (This ∷ ts) h = (refl, λ v k. k)
   start_holds (ToStart class ∷ wants) (New pc ∷ ts) h = (
     refl,
-    new_start class pc (is_true (is_class_of (new_class m.code m.targets pc) class)
-        (or_parts (not (is_class_of (new_class m.code m.targets pc) class)) (some_taken (λ want t. not (suits m want t)) wants ts) h).0),
+    λ v k. subst (λ (c : ℕ). is c v) (sym (same_class (new_class m.code m.targets pc) k.0 class k.1 (is_true (is_class_of (new_class m.code m.targets pc) class)
+        (or_parts (not (is_class_of (new_class m.code m.targets pc) class)) (some_taken (λ want t. not (suits m want t)) wants ts) h).0))) k.2,
   )
   start_holds (ToStart class ∷ wants) (t ∷ ts) h = absurd (cc)
   start_holds (want ∷ wants) (t ∷ ts) h = start_holds wants ts (later want t wants ts h)
@@ -77,7 +74,11 @@ module _ (m : MethodInfo) (is : Classes) where
       → ValuesHold m is (frame_after m r g) (frame_on r to made f)
   values_after r g f to made types k h = started_frame (started m.class r.takes g.stack) _ (frame_on r to made f)
       (start_holds r.takes g.stack (or_parts (some_taken (λ want t. not (suits m want t)) r.takes g.stack) (some_read (λ want t. not (suits m want t)) r.reads g.locals) types).0)
-      (record { stack = moved_stack m is r g.stack g.locals f.stack f.locals made k.stack k.locals h; locals = moved_locals m is r g.stack g.locals f.stack f.locals made k.stack k.locals h; receiver = k.receiver })
+      (record {
+        stack = stack_holds m is r.gives g.stack g.locals f.stack f.locals made (drop (length r.takes) g.stack) (drop (length r.takes) f.stack) k.stack k.locals h.0 (rest_holds m is (length r.takes) g.stack f.stack k.stack);
+        locals = locals_hold m is r.writes g.stack g.locals f.stack f.locals made k.stack k.locals h.1;
+        receiver = k.receiver;
+      })
 
   pub edge_at : (code : List Insn) (frames : List (Option TypeFrame)) (g : TypeFrame) (tos : List ℕ) (to : ℕ) → AllByRecursion (FrameFits code frames g) tos → OneOf tos to → FrameFits code frames g to
   edge_at code frames g tos to all one = all_at (FrameFits code frames g) tos to all one

@@ -111,15 +111,7 @@ module _ (m : MethodInfo) (is : Classes) where
   set_holds (u ∷ ls) (w ∷ l) (suc i) t v k h = (k.0, set_holds ls l i t v k.1 h)
   set_holds ls l i t v k h = absurd (assumption)
 
-  locals_hold : (write : Option (ℕ × Given)) (ts ls : List VType) (s l : List ℕ) (made : ℕ) → AllZip (Holds m is) ts s → AllZip (Holds m is) ls l → WriteHolds m is made write
+  pub locals_hold : (write : Option (ℕ × Given)) (ts ls : List VType) (s l : List ℕ) (made : ℕ) → AllZip (Holds m is) ts s → AllZip (Holds m is) ls l → WriteHolds m is made write
       → AllZip (Holds m is) (locals_after Top (λ t. t) write ts ls) (locals_after 0 (λ t. made) write s l)
   locals_hold None ts ls s l made f g h = g
   locals_hold (Some write) ts ls s l made f g h = set_holds ls l write.0 _ _ g (value_holds ts ls s l made write.1 f g h)
-
-  pub moved_stack : (r : OpRow) (ts ls : List VType) (s l : List ℕ) (made : ℕ) → AllZip (Holds m is) ts s → AllZip (Holds m is) ls l → HasRowTypes m is r made
-      → AllZip (Holds m is) (stack_after Top (λ t. t) r ts ls) (stack_after 0 (λ t. made) r s l)
-  moved_stack r ts ls s l made f g h = stack_holds r.gives ts ls s l made (drop (length r.takes) ts) (drop (length r.takes) s) f g h.0 (rest_holds (length r.takes) ts s f)
-
-  pub moved_locals : (r : OpRow) (ts ls : List VType) (s l : List ℕ) (made : ℕ) → AllZip (Holds m is) ts s → AllZip (Holds m is) ls l → HasRowTypes m is r made
-      → AllZip (Holds m is) (locals_after Top (λ t. t) r.writes ts ls) (locals_after 0 (λ t. made) r.writes s l)
-  moved_locals r ts ls s l made f g h = locals_hold r.writes ts ls s l made f g h.1
