@@ -10,10 +10,8 @@ use Rattle.jvm_types.proofs.TypeOrder.{subclass_self}
 use Rattle.laws_programs.proofs.TargetRows.{targets_rows}
 use Rattle.machine_types.specs.{Effects.{variable_of, kept, at_local, effect}, Ints.{low, word_of, added}, ReadyObjects.out_object, Typed.{Classes, IsNullOr, KindHolds, Holds, IsElementOn}}
 use Rattle.machine_types.specs.{Words.value_word, declared.effect.Effect.{Effect, TheVariants.{Goes, Reads, Writes}}}
-use Rattle.machine_types.proofs.EffectCases.{Comes, lacks, goes, refuses, reads_static, writes_static, reads_field, writes_field, loads_element, stores_element, measures, raises, makes_object, makes_int_array, prints, calls, calls_fixed}
-use Rattle.machine_types.proofs.EffectCases.{returns, enters, leaves, waits, notifies, notifies_all, GivenMade, WriteMade, RowMade, HasConstant, HasTaken, IsRefusal, uses_local, low_lt, comes}
-use Rattle.laws_threads.specs.Allowed.{IsOf, IsNamedField, WantHolds, TakenHold, GivenHolds, WriteHolds, HasRowTypes, HasLocal, IsByMachine, OneOf, Allowed}
-use Rattle.laws_threads.proofs.EffectsOfInsns.{suited}
+use Rattle.machine_types.proofs.EffectCases.{Comes, lacks, goes, refuses, reads_static, writes_static, reads_field, writes_field, loads_element, stores_element, measures, raises, makes_object, makes_int_array, prints, calls, calls_fixed, returns, enters, leaves, waits, notifies, notifies_all, GivenMade, WriteMade, RowMade, HasConstant, HasTaken, IsRefusal, uses_local, low_lt, comes}
+use Rattle.laws_threads.{specs.Allowed.{IsOf, IsNamedField, WantHolds, TakenHold, GivenHolds, WriteHolds, HasRowTypes, HasLocal, IsByMachine, OneOf, Allowed}, proofs.EffectsOfInsns.suited}
 use Rattle.laws_threads.proofs.Tests.{either_way}
 use Rattle.jvm_types.specs.declared.code.Op.TheVariants as ops
 use Rattle.jvm_types.specs.declared.outcome.Thrown.TheVariants as thrown

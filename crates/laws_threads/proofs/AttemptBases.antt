@@ -1,6 +1,6 @@
 -- The frame at the base of an attempt is that of the section's method.
-use Rattle.lists.proofs.ListLaws.{same_some}
 use Rattle.std.{proofs.Common.{◌≡◌, ℕ, zero, suc, ◌+◌, ◌-◌, ◌<◌, List, [], ◌∷◌, length, take, drop, Some, None, refl, sym, ap, ◌∙◌, subst, inl, inr, arith, ◌⊎◌}, specs.List.AllZip}
+use Rattle.lists.proofs.ListLaws.{same_some}
 use Rattle.checked_program.specs.{MarkedProgram.MarkedProgram, SectionLaws.{Part, AreParts}, declared.section.Mode.Mode}
 use Rattle.machine_types.specs.{Standing.tags_of, Structure.{AttemptStandsIn, Finishes, RunsSection, IsPart, frames_inside, section_of}, Threads.{Frame, Attempt}, declared.phase.Phase.Phase}
 use Rattle.laws_threads.specs.AttemptLaws.{IsOnBase, AttemptsAreBased}

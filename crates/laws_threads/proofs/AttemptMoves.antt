@@ -1,5 +1,5 @@
 -- An attempt stands as its top frame goes along an edge, calls, returns to the frame below, or ends by an exception.
-use Rattle.std.proofs.Common.{false, ◌≡◌, ◌≢◌, inr, ⊎_elim, ℕ, ◌-◌, ◌<◌, ◌≤◌, true, List, [], ◌∷◌, ◌++◌, length, take, Some, refl, sym, ap, ◌∙◌, subst, arith, ◌==◌, slice_get, if◌then◌else◌}
+use Rattle.std.proofs.Common.{false, ◌≡◌, ◌≢◌, inr, ⊎_elim, ℕ, ◌-◌, ◌≤◌, true, List, [], ◌∷◌, ◌++◌, length, take, Some, refl, sym, ap, ◌∙◌, subst, arith, ◌==◌, slice_get, if◌then◌else◌}
 use Rattle.std.proofs.lemmas.Bool.{cases_eq, Decides.nat_tests}
 use Rattle.lists.proofs.{ListLaws.same_some, TestLaws.second_true}
 use Rattle.jvm_types.specs.{CodeTable.{branches_to, falls_through}, Members.is_synchronized, Numbers.has_number, Verifying.edges, declared.{code.Insn.Insn, outcome.Thrown.Thrown, program.MethodInfo.MethodInfo}}
@@ -7,10 +7,8 @@ use Rattle.checked_program.specs.{LockTags.TagShape, MarkedProgram.{MarkedProgra
 use Rattle.laws_sections.proofs.SectionCalls.{no_exit}
 use Rattle.machine_types.specs.{Elision.put_back, Frames.{top_of, given}, Onward.{back, unwound}, Standing.Standing, Structure.{IsPhaseInside, AttemptStands, RunsSection, frames_inside}}
 use Rattle.machine_types.specs.{Threads.{Frame, Attempt}, declared.{lock.Held.Held, phase.Phase.Phase}}
-use Rattle.laws_threads.{specs.InsideMoves.{GoesOnInside, OnwardStands}, proofs.{FramesInside.{one_more, put_back_over}, Inside.{base_below, stands_on}}}
-use Rattle.laws_threads.proofs.{SectionFrames.{Runs, Caller, IsExitOf, section_of_runs, moved, caller}, FramePlaces.has_top}
-use Rattle.laws_threads.proofs.Base.{entry_of, of_synchronized}
-use Rattle.laws_threads.proofs.EffectOps.{call_falls}
+use Rattle.laws_threads.{specs.InsideMoves.{GoesOnInside, OnwardStands}, proofs.{Base.{entry_of, of_synchronized}, EffectOps.call_falls, FramePlaces.has_top, FramesInside.{one_more, put_back_over}}}
+use Rattle.laws_threads.proofs.{Inside.{base_below, stands_on}, SectionFrames.{Runs, Caller, IsExitOf, section_of_runs, moved, caller}}
 use Rattle.jvm_types.specs.declared.code.Op.TheVariants as ops
 use Rattle.machine_types.specs.declared.phase.Phase.TheVariants as phases
 

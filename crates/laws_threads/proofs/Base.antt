@@ -6,9 +6,8 @@ use Rattle.jvm_types.specs.{Members.is_synchronized, declared.{code.Insn.Insn, p
 use Rattle.checked_program.specs.{LockTags.TagShape, MarkedProgram.{MarkedProgram, IsMarked}, SectionLaws.{Part, IsSectionPart, AreParts, HasEntryDepth, IsExit}, Sections.{BeginsAt, IsOwn, IsInBlock}}
 use Rattle.checked_program.specs.{TaggedCode.IsAt, declared.section.Spot.TheVariants.Block}
 use Rattle.laws_sections.proofs.SectionMoves.{own_deep}
-use Rattle.machine_types.specs.{Frames.{monitor_by, monitor_of}, Sections.entered_at, Shown.{Shows, Show}, Standing.{Standing, Operands, Whole, tags_of}}
-use Rattle.machine_types.specs.{Structure.{IsPart, IsBehindEntry, AttemptStands, section_of, count_in, once_at, held_depth, tried_depth}, Threads.{Frame, Attempt}, declared.lock.Held.Held}
-use Rattle.machine_types.specs.declared.phase.Phase.{Phase}
+use Rattle.machine_types.specs.{Frames.{monitor_by, monitor_of}, Sections.entered_at, Shown.{Shows, Show}, Standing.{Standing, Operands, Whole, tags_of}, Threads.{Frame, Attempt}}
+use Rattle.machine_types.specs.{Structure.{IsPart, IsBehindEntry, AttemptStands, section_of, count_in, once_at, held_depth, tried_depth}, declared.{lock.Held.Held, phase.Phase.Phase}}
 use Rattle.laws_threads.proofs.{FramesInside.put_back_alone, SectionEntries.{Entered, entered_before, just_before, next_later, none_held, Took, took}, SectionFrames.{part_of, Runs}}
 use Rattle.laws_threads.proofs.{ShownLengths.{own_count, shown_length, none_inner}, Standings.{laid, one_method, one_tags}}
 

@@ -1,5 +1,4 @@
 -- An attempt stands as it begins: its frame is at the first own instruction of a marked section, on its receiver.
-use Rattle.laws_threads.proofs.Tests.{either_way}
 use Rattle.std.proofs.Common.{◌≡◌, ◌≢◌, ◌⊎◌, inl, inr, ⊎_elim, ℕ, zero, suc, Bool, true, cond, List, [], ◌∷◌, ◌++◌, length, map, Option, Some, None, refl, sym, ap, ◌∙◌, subst, arith, slice_get, slice_index_or, if◌then◌else◌}
 use Rattle.std.proofs.lemmas.Bool.{cases_eq}
 use Rattle.lists.proofs.ListLaws.{same_some}
@@ -11,9 +10,8 @@ use Rattle.checked_program.specs.declared.{section.{Mode.TheVariants.{OnThis, On
 use Rattle.laws_sections.proofs.SectionCalls.{begin_law}
 use Rattle.machine_types.specs.{Frames.monitor_of, MarkLaws.MarkedHasMark, Sections.entered_at, Shown.{tag_value, own_entry, Shows}, Standing.{Standing, Whole, tags_of}}
 use Rattle.machine_types.specs.{Structure.{IsBehindEntry, Stands, RunsSection, mode_monitor, section_monitor, section_of, frames_inside}, Threads.{Frame, Attempt}, Words.class_object}
-use Rattle.laws_threads.{specs.InsideMoves.BeginsAttempt, proofs.{FramesInside.{put_back_alone, one_more}, SectionEntries.{Entered, entered_before, just_before, next_later, Took, took}}}
-use Rattle.laws_threads.proofs.{SectionFrames.part_of, Standings.{laid, one_tags}}
-use Rattle.laws_threads.proofs.AttemptMoves.{only_entry}
+use Rattle.laws_threads.{specs.InsideMoves.BeginsAttempt, proofs.{AttemptMoves.only_entry, FramesInside.{put_back_alone, one_more}}}
+use Rattle.laws_threads.proofs.{SectionEntries.{Entered, entered_before, just_before, next_later, Took, took}, SectionFrames.part_of, Standings.{laid, one_tags}, Tests.either_way}
 use Rattle.machine_types.specs.declared.phase.Phase.TheVariants as phases
 
 -- a tag is `this` or not

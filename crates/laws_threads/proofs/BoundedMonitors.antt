@@ -1,9 +1,9 @@
 -- Entering and leaving monitors, waiting and notifying keep a thread within its bounds.
-use Rattle.std.proofs.{Common.{◌≡◌, ℕ, zero, suc, ◌+◌, ◌<◌, ◌≤◌, nat_lt, nat_le, true, List, Option, Some, None, refl, subst, ap, arith, ◌/◌, ◌%◌, option_map, IfSome}, lemmas.Bool.Decides.nat_tests}
+use Rattle.std.proofs.{Common.{◌≡◌, ℕ, zero, suc, ◌+◌, ◌<◌, ◌≤◌, nat_lt, nat_le, true, List, Option, Some, None, refl, subst, ap, arith, option_map, IfSome}, lemmas.Bool.Decides.nat_tests}
 use Rattle.lists.proofs.TestLaws.{both_are_true}
 use Rattle.jvm_types.specs.declared.{fixed_words.TheConstants.MONITOR_RECORDS, limits.TheConstants.MOST_WORKERS, program.Program.Program}
 use Rattle.machine_types.specs.{Bounds.{KeptFits, IsInner, IsBounded}, Elision.elided, FoundWords.{HasCount, most_count}, Going.{with_phase, runs, goes_after}}
-use Rattle.machine_types.specs.{HeldMonitors.{held_at, with_held, without_held, deeper, shallower}, LockWords.{lock_by, lock_of, is_lock_by, is_lock_word}, Monitors.{takes, lets_go, retakes, grown}}
+use Rattle.machine_types.specs.{HeldMonitors.{held_at, with_held, without_held, deeper, shallower}, LockWords.{lock_by, is_lock_by}, Monitors.{takes, lets_go, retakes, grown}}
 use Rattle.machine_types.specs.{Structure.IsFlat, Threads.{Frame, Attempt, Thread}, declared.{lock.{Held.Held, Kept.Kept, LockWord.LockWord}, phase.{After.After, Phase.Phase, Toward.Toward}}}
 use Rattle.laws_threads.proofs.{BoundedInstructions.{inside, one_more}, BoundedOnward.{Fit, Spends, spends_less, bounded, running, goes_behind}}
 use Rattle.laws_threads.proofs.{HeldBounds.{HeldFit, each_put, each_without, found, flat, flat_put, flat_without, flat_refit, flat_at_most_one}, ThreadMove.begun_attempt}

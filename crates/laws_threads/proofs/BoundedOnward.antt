@@ -1,14 +1,10 @@
 -- What keeps a thread within its bounds whatever its phase, and that it stays within them as it goes on.
-use Rattle.std.proofs.Common.{◌≡◌, ℕ, ◌+◌, ◌<◌, ◌≤◌, nat_lt, Bool, true, false, List, [], ◌∷◌, length, drop, Option, Some, None, refl, arith, if◌then◌else◌, IfSome}
-use Rattle.std.proofs.lemmas.Bool.Decides.{nat_tests}
+use Rattle.std.proofs.{Common.{◌≡◌, ℕ, ◌+◌, ◌<◌, ◌≤◌, nat_lt, Bool, true, false, List, [], ◌∷◌, length, drop, Option, Some, None, refl, arith, if◌then◌else◌, IfSome}, lemmas.Bool.Decides.nat_tests}
 use Rattle.jvm_types.specs.{Members.is_synchronized, declared.{outcome.{Print.Print, Thrown.Thrown}, program.{Program.Program, Row.Row}}}
-use Rattle.machine_types.specs.{Bounds.{PhaseFits, TurnsFit, StepsFit, WaitFits, EntryFits, entry_under_way, attempt_under_way, under_way, IsBounded}, FoundWords.most_count}
-use Rattle.machine_types.specs.{Frames.{Top, top_of, frames_of, monitor_of, returned}, Going.{with_phase, runs, failed_turn, goes_on, goes_on_if, goes_after}}
-use Rattle.machine_types.specs.{Onward.{Onward, Running, Throwing, Entering, Leaving, RootReturned, Uncaught, back, unwound, handed, after}, Threads.{Frame, Attempt, Thread}}
-use Rattle.machine_types.specs.declared.{config.Config.Config, phase.{After.After, Phase.Phase}}
-use Rattle.laws_threads.proofs.HeldBounds.{HeldFit}
-use Rattle.laws_threads.proofs.ThreadMove.{if_either, if_mapped, over_to}
-use Rattle.laws_threads.proofs.Tests.{either_way}
+use Rattle.machine_types.specs.{Bounds.{PhaseFits, TurnsFit, StepsFit, WaitFits, EntryFits, entry_under_way, attempt_under_way, under_way, IsBounded}, FoundWords.most_count, Frames.{Top, top_of}}
+use Rattle.machine_types.specs.{Frames.{frames_of, monitor_of, returned}, Going.{with_phase, runs, failed_turn, goes_on, goes_on_if, goes_after}, Onward.{Onward, Running, Throwing, Entering, Leaving}}
+use Rattle.machine_types.specs.{Onward.{RootReturned, Uncaught, back, unwound, handed, after}, Threads.{Frame, Attempt, Thread}, declared.{config.Config.Config, phase.{After.After, Phase.Phase}}}
+use Rattle.laws_threads.proofs.{HeldBounds.HeldFit, Tests.either_way, ThreadMove.{if_either, if_mapped, over_to}}
 use Rattle.jvm_types.specs.declared.outcome.End.TheVariants as ends
 use Rattle.machine_types.specs.declared.phase.After.TheVariants as afters
 use Rattle.machine_types.specs.declared.phase.Phase.TheVariants as phases

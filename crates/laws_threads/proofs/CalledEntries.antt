@@ -1,7 +1,6 @@
 -- The frame that a call makes has the types of the called method's start.
-use Rattle.std.proofs.lemmas.Bool.{cond_both}
-use Rattle.std.proofs.Common.{◌≡◌, ℕ, zero, suc, ◌-◌, ◌<◌, ◌≤◌, ◌⊎◌, inl, inr, Bool, true, false, List, [], ◌∷◌, ◌++◌, length, Some, ap, sym, subst, ◌∙◌, arith, slice_get, map, reverse, take, replicate, if◌then◌else◌}
-use Rattle.std.{specs.List.AllZip, proofs.lemmas.List.{reverse-append, length-append}}
+use Rattle.std.{specs.List.AllZip, proofs.Common.{◌≡◌, ℕ, zero, suc, ◌-◌, ◌<◌, ◌≤◌, ◌⊎◌, inl, inr, Bool, true, false, List, [], ◌∷◌, ◌++◌, length, Some, ap, sym, subst, ◌∙◌, arith, slice_get, map}}
+use Rattle.std.proofs.{Common.{reverse, take, replicate, if◌then◌else◌}, lemmas.{Bool.cond_both, List.{reverse-append, length-append}}}
 use Rattle.jvm_types.specs.{CodeTable.{want_of, type_of, arguments, is_init}, Members.is_static, Types.{TypeFrame, filled, receiver_types}, declared.op_row.{OpRow.OpRow, Want.Want}}
 use Rattle.jvm_types.{specs.declared.{program.{Kind.Kind, MethodInfo.MethodInfo}, typing.{VType.{VType, TheVariants.{Ref, This, Top}}}}, proofs.{ScopeLaws.zip_append, TypeOrder.subclass_self}}
 use Rattle.laws_programs.proofs.ClassTreeLaws.{files_alone}

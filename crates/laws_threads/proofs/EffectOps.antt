@@ -6,12 +6,10 @@ use Rattle.jvm_types.specs.declared.program.{FieldInfo.FieldInfo, MethodInfo.Met
 use Rattle.laws_programs.specs.TargetLaws.{HasRow}
 use Rattle.checked_program.specs.{FrozenPlaces.{IsFrozenField, IsFrozenStatic, IsGuardedField}, MarkedProgram.MarkedProgram, Marks.called_method, SectionLaws.{IsOwnStatic, ReadsOnly}}
 use Rattle.checked_program.specs.declared.section.Mode.{Mode, TheVariants.{OnThis, OnClass}}
-use Rattle.machine_types.specs.{Effects.{variable_of, effect}, Standing.tags_of, Words.class_object, declared.effect.Effect.Effect}
+use Rattle.machine_types.specs.{Effects.{variable_of, effect}, Standing.tags_of, Words.class_object, declared.effect.{Effect.Effect, Variable.TheVariants.{Instance, Static}}}
 use Rattle.machine_types.specs.declared.effect.Effect.TheVariants.{Reads, Writes, Indexes, Measures, Makes, Prints, Calls, Returns, Enters, Leaves, Waits, Notifies, NotifiesAll, Stuck}
-use Rattle.machine_types.specs.declared.effect.Variable.TheVariants.{Instance, Static}
 use Rattle.machine_types.proofs.EffectCases.{Comes, reads_static, writes_static, reads_field, writes_field, loads_element, stores_element, measures, makes_object, makes_int_array, prints, calls, calls_fixed, returns, enters, leaves, waits, notifies, notifies_all, comes}
-use Rattle.laws_threads.specs.InsideEffects.{IsStayingStatic, MayRead}
-use Rattle.laws_threads.proofs.Tests.{either_way}
+use Rattle.laws_threads.{specs.InsideEffects.{IsStayingStatic, MayRead}, proofs.Tests.either_way}
 use Rattle.jvm_types.specs.declared.code.Op.TheVariants as ops
 use Rattle.jvm_types.specs.declared.program.Target.TheVariants as targets
 

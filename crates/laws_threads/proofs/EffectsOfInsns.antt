@@ -1,9 +1,8 @@
 -- Which instructions have an effect: where it goes on in its frame, what it takes from the stack, and whether it can throw.
 use Rattle.std.proofs.Common.{◌≡◌, ℕ, Bool, true, false, List, [], ◌∷◌, Some, None, refl, sym, ◌∙◌, subst, slice_get}
 use Rattle.lists.proofs.ListLaws.{same_some}
-use Rattle.jvm_types.specs.{CodeTable.{row, can_throw}, Members.is_static, Numbers.has_number, ProgramInvariant.site_in, Verifying.{edges, is_return}}
-use Rattle.jvm_types.specs.declared.{class_numbers.TheConstants.INT_ARRAY_CLASS, code.{Insn.Insn, Op.Op}, op_row.Given.TheVariants.Fresh, program.{MethodInfo.MethodInfo, Program.Program, Target.Target}}
-use Rattle.jvm_types.specs.declared.typing.VType.{VType}
+use Rattle.jvm_types.specs.{CodeTable.{row, can_throw}, Members.is_static, Numbers.has_number, ProgramInvariant.site_in, Verifying.{edges, is_return}, declared.code.{Insn.Insn, Op.Op}}
+use Rattle.jvm_types.specs.declared.{class_numbers.TheConstants.INT_ARRAY_CLASS, op_row.Given.TheVariants.Fresh, program.{MethodInfo.MethodInfo, Program.Program, Target.Target}, typing.VType.VType}
 use Rattle.laws_programs.specs.TargetLaws.{HasRow}
 use Rattle.checked_program.specs.Marks.{called_method}
 use Rattle.machine_types.specs.{Effects.effect, declared.effect.Effect.{Effect, TheVariants.{Goes, Throws, Reads, Writes, Indexes, Measures, Raises, Makes, Prints, Calls, Returns, Enters, Leaves, Waits, Notifies, NotifiesAll, Stuck}}}

@@ -2,12 +2,10 @@
 use Rattle.std.proofs.Common.{◌≡◌, ℕ, ◌<◌, Bool, true, false, List, [], ◌∷◌, ◌++◌, length, Option, Some, None, refl, sym, ap, ◌∙◌, subst, arith, slice_get, option_map, if◌then◌else◌}
 use Rattle.lists.proofs.ListLaws.{same_some}
 use Rattle.jvm_types.specs.{Members.is_synchronized, declared.{outcome.Thrown.{Thrown, TheVariants.StackOverflowError}, program.{MethodInfo.MethodInfo, Program.Program, Row.Row}}}
-use Rattle.machine_types.specs.Elision.{put_back}
+use Rattle.machine_types.specs.{Elision.put_back, Onward.{Onward, Running, Throwing, Entering, Leaving, threw, entered, called, back, returns, unwound, handed, done}, Threads.{Frame, Attempt}}
 use Rattle.machine_types.specs.Frames.{Top, top_of, frames_of, went, went_on, waiting, taken_from, has_room, entry_frame, arguments_of, monitor_of, given_back, given, returned, handler_at}
-use Rattle.machine_types.specs.{Onward.{Onward, Running, Throwing, Entering, Leaving, threw, entered, called, back, returns, unwound, handed, done}, ReadyObjects.{class_of, thrown_of}}
-use Rattle.machine_types.specs.{Threads.{Frame, Attempt}, Words.{header_class, header_length}, declared.effect.Effect.Effect}
+use Rattle.machine_types.{specs.{ReadyObjects.{class_of, thrown_of}, Words.{header_class, header_length}, declared.effect.Effect.Effect}, proofs.PlainPartLaws.frames_are}
 use Rattle.machine_types.specs.declared.effect.Effect.TheVariants.{Goes, Throws, Reads, Writes, Measures, Raises, Prints, Calls, Returns, Enters, Leaves}
-use Rattle.machine_types.proofs.PlainPartLaws.{frames_are}
 use Rattle.laws_threads.{specs.EntryFrames.{frames_in, KeepsEntry, StepsKeepEntry, ThrowsKeepEntry, LeavesKeepEntry}, proofs.{AttemptMoves.put_back_top, FramesInside.put_back_over, Inside.base_below}}
 use Rattle.machine_types.specs.declared.phase.After.TheVariants as afters
 

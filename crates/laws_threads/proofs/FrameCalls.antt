@@ -1,21 +1,14 @@
 -- A call: the caller waits, and the called method begins.
-use Rattle.laws_threads.proofs.{Callers.row_of_call, Calls.takes_arguments}
-use Rattle.laws_programs.specs.EntryLaws.{receiver_count}
 use Rattle.std.proofs.Common.{◌≡◌, ℕ, if◌then◌else◌, zero, suc, ◌-◌, ◌≤◌, Bool, true, false, cond, List, [], ◌∷◌, ◌++◌, drop, take, reverse, length, replicate, Some, inl, refl, sym, ap, ◌∙◌, subst, arith, slice_get}
 use Rattle.std.proofs.lemmas.List.{length-append, length-replicate}
 use Rattle.lists.proofs.{ListLaws.same_some, StackLaws.reverse_cons}
-use Rattle.jvm_types.specs.{CodeTable.arguments, Members.{MethodSite, is_static, is_synchronized}, ProgramInvariant.site_in, declared.{code.Op.Op, op_row.{OpRow.OpRow, Want.Want}}}
-use Rattle.jvm_types.specs.declared.program.{MethodInfo.MethodInfo, Program.Program, Target.Target}
-use Rattle.laws_programs.specs.TargetLaws.{HasRow}
+use Rattle.jvm_types.specs.{Members.{is_static, is_synchronized}, declared.{op_row.Want.Want, program.MethodInfo.MethodInfo}}
+use Rattle.laws_programs.specs.EntryLaws.{receiver_count}
 use Rattle.checked_program.specs.{LockTags.entry_tags, MarkedProgram.{MarkedProgram, IsMarked}, Marks.called_method, declared.tag.Tag.TheVariants.{Untagged, This}}
-use Rattle.machine_types.specs.{Frames.{Top, effect_at, waiting, entry_frame, arguments_of, first_or_null, monitor_of}, Onward.root_arguments}
-use Rattle.machine_types.specs.{Shown.{HaveValues, Shows, ShowsAtCall, ShowBelow, Show, own_entry}, Standing.{Standing, Whole, row_at}, Threads.Frame, declared.effect.Effect.TheVariants.Calls}
-use Rattle.machine_types.proofs.EffectCases.{HasTop}
-use Rattle.laws_threads.{specs.CallLaws.{callee_frame, CalledStand, CallsShow, CallsEnter, RootsShow}, proofs.{EffectsOfInsns.{Fits, IsCalling}, FramePlaces.{Lands, lands, top_by}}}
-use Rattle.laws_threads.proofs.{MarkedMethods.{MethodAt, method_at}, ShownFrames.{by_top, fits_at, whole_landed}, TagValues.dropped}
-use Rattle.laws_threads.proofs.Landing.{rules_at}
-use Rattle.jvm_types.specs.declared.code.Op.TheVariants as ops
-use Rattle.jvm_types.specs.declared.program.Target.TheVariants as targets
+use Rattle.machine_types.specs.{Frames.{Top, effect_at, waiting, entry_frame, arguments_of, first_or_null, monitor_of}, Onward.root_arguments, Standing.{Standing, Whole, row_at}, Threads.Frame}
+use Rattle.machine_types.{specs.{Shown.{HaveValues, Shows, ShowsAtCall, ShowBelow, Show, own_entry}, declared.effect.Effect.TheVariants.Calls}, proofs.EffectCases.HasTop}
+use Rattle.laws_threads.{specs.CallLaws.{callee_frame, CalledStand, CallsShow, CallsEnter, RootsShow}, proofs.{Callers.row_of_call, Calls.takes_arguments, EffectsOfInsns.{Fits, IsCalling}}}
+use Rattle.laws_threads.proofs.{FramePlaces.{Lands, lands, top_by}, MarkedMethods.{MethodAt, method_at}, ShownFrames.{by_top, fits_at, whole_landed}, TagValues.dropped}
 
 -- ---- the locals that a method begins with
 

@@ -7,8 +7,7 @@ use Rattle.checked_program.specs.{LockTags.{TagShape, without, IsShapeBelow}, Ma
 use Rattle.checked_program.specs.declared.tag.Tag.{Tag, TheVariants.{Untagged, At}}
 use Rattle.machine_types.specs.{Frames.frame_on, Shown.{tag_value, HaveValues, own_entry, Shows}, Standing.{Standing, Whole, Lacking}, Threads.Frame}
 use Rattle.laws_threads.{specs.MoveLaws.is_lock_op, proofs.{EffectsOfInsns.{is_dup, IsMaking}, FramePlaces.{of_standing, sound_at}, MarkedMethods.free_at}}
-use Rattle.laws_threads.proofs.{ShownFrames.{landed, whole_landed, shows_landed}, TagValues.{weaker, dropped, row_stack, row_locals, chosen, rechosen, values_kept, chosen_there}}
-use Rattle.laws_threads.proofs.Tests.{either_way}
+use Rattle.laws_threads.proofs.{ShownFrames.{landed, whole_landed, shows_landed}, TagValues.{weaker, dropped, row_stack, row_locals, chosen, rechosen, values_kept, chosen_there}, Tests.either_way}
 use Rattle.jvm_types.specs.declared.code.Op.TheVariants as ops
 
 -- ---- edges

@@ -11,10 +11,8 @@ use Rattle.checked_program.specs.declared.tag.Tag.{Tag, TheVariants.Untagged}
 use Rattle.machine_types.specs.{Frames.{Top, effect_at, given, given_back, returned, monitor_of}, Shown.{tag_value, HaveValues, Shows, ShowsAtCall, ShowBelow, Show, own_entry}}
 use Rattle.machine_types.specs.{Standing.{Standing, Operands, Whole, row_at}, Structure.{IsLeaving, TopLeaves}, Threads.Frame, Typed.{Classes, Holds, FrameHolds}}
 use Rattle.machine_types.{specs.declared.effect.Effect.TheVariants.Returns, proofs.EffectCases.{HasTop, HasReturned, next_edge}}
-use Rattle.laws_threads.{specs.{CallLaws.{IsLeft, HasHeight, ReturnsShow, ReturnsBehindRelease}, MoveLaws.is_lock_op}, proofs.EffectsOfInsns.is_dup}
-use Rattle.laws_threads.proofs.{FrameMoves.{plain_after, edge_fits}, FramePlaces.{one_standing, sound_at, top_by, has_top}, ShownFrames.{by_top, fits_at, landed, whole_landed}}
-use Rattle.laws_threads.proofs.Lists.{zip_length}
-use Rattle.laws_threads.proofs.Landing.{rules_at}
+use Rattle.laws_threads.{specs.{CallLaws.{IsLeft, HasHeight, ReturnsShow, ReturnsBehindRelease}, MoveLaws.is_lock_op}, proofs.{EffectsOfInsns.is_dup, FrameMoves.{plain_after, edge_fits}}}
+use Rattle.laws_threads.proofs.{FramePlaces.{one_standing, sound_at, top_by, has_top}, Landing.rules_at, Lists.zip_length, ShownFrames.{by_top, fits_at, landed, whole_landed}}
 use Rattle.jvm_types.specs.declared.code.Op.TheVariants as ops
 use Rattle.jvm_types.specs.declared.program.Target.TheVariants as targets
 use Rattle.laws_threads.proofs.EffectsOfInsns as effects

@@ -1,16 +1,14 @@
 -- Exceptions: to a handler, or out of a frame.
 use Rattle.std.proofs.lemmas.Bool.Decides.{nat_tests}
 use Rattle.std.{proofs.Common.{◌≡◌, ℕ, arith, Bool, true, false, cond, not, ◌&&◌, ◌||◌, List, [], ◌∷◌, ◌++◌, Some, None, refl, sym, ap, ◌∙◌, subst}, specs.List.{AllByRecursion, list_any, filter}}
-use Rattle.jvm_types.specs.{CodeTable.can_throw, Verifying.{is_return, covers, covering}, declared.{code.Insn.Insn, program.{MethodInfo.MethodInfo, Program.Program, Row.Row}}}
-use Rattle.jvm_types.specs.declared.program.Target.{Target}
+use Rattle.jvm_types.specs.{CodeTable.can_throw, Verifying.{is_return, covers, covering}, declared.{code.Insn.Insn, program.{MethodInfo.MethodInfo, Program.Program, Row.Row, Target.Target}}}
 use Rattle.laws_programs.proofs.LocalGoing.{at_index}
 use Rattle.checked_program.specs.{LockTags.IsShapeBelow, MarkedProgram.{MarkedProgram, IsMarked}, Tagging.{catches_all, until_all, tags_at_handler}, Visits.EdgeFits}
 use Rattle.checked_program.proofs.CheckedPlaces.{catchers_among}
 use Rattle.machine_types.specs.{Frames.{Top, effect_at, frames_of, handler_of, handler_at, caught}, Shown.{Shows, ShowsAtCall, ShowBelow, Show}, Standing.{Standing, Whole, Thrown}}
 use Rattle.machine_types.specs.{Structure.{TopIs, any_op}, Threads.Frame, declared.effect.Effect.{Effect, TheVariants.{Throws, Raises, Indexes, Makes, Calls, Waits, Notifies, NotifiesAll}}}
 use Rattle.laws_threads.specs.{CallLaws.IsLeft, ThrowLaws.{may_throw, EffectsThrow, ThrowsShow, CaughtShows, ThrowsOn, UnwoundShows, UnwindsBehindRelease}}
-use Rattle.laws_threads.proofs.{FramePlaces.{one_standing, sound_at, top_by}, FrameReturns.{is_call, left, leaves_one}, ShownFrames.{by_top, fits_at, landed, whole_landed}}
-use Rattle.laws_threads.proofs.TypedMoves.{handler_found}
+use Rattle.laws_threads.proofs.{FramePlaces.{one_standing, sound_at, top_by}, FrameReturns.{is_call, left, leaves_one}, ShownFrames.{by_top, fits_at, landed, whole_landed}, TypedMoves.handler_found}
 use Rattle.laws_threads.proofs.EffectsOfInsns as effects
 
 -- ---- effects

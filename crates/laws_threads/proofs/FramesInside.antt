@@ -1,6 +1,5 @@
 -- The frames inside an attempt, as the top ones come and go.
-use Rattle.std.proofs.Common.{◌≡◌, suc, ◌-◌, ◌≤◌, List, [], ◌∷◌, length, take, drop, ap, arith}
-use Rattle.std.proofs.lemmas.List.{length-take}
+use Rattle.std.proofs.{Common.{◌≡◌, suc, ◌-◌, ◌≤◌, List, [], ◌∷◌, length, take, drop, ap, arith}, lemmas.List.length-take}
 use Rattle.machine_types.specs.{Elision.put_back, Structure.frames_inside, Threads.{Frame, Attempt}}
 
 pub one_more : (a : Attempt) (f : Frame) (below : List Frame) → a.base ≤ length below → frames_inside a (f ∷ below) ≡ f ∷ frames_inside a below

@@ -1,13 +1,11 @@
 -- A thread holds no more monitors than its frames show entries, and each frame shows no more than its method and its held tags.
-use Rattle.laws_threads.proofs.ShownLengths.{shown_length}
-use Rattle.std.proofs.Common.{◌≡◌, ℕ, zero, suc, ◌+◌, ◌*◌, ◌<◌, ◌≤◌, Bool, false, cond, List, [], ◌∷◌, map, length, Option, Some, None, refl, ap, ◌∙◌, subst, arith, length-append, ◌==◌, slice_get}
-use Rattle.std.proofs.{Math.Nat.{le-max_left, le-max_right}, lemmas.{Bool.Decides.nat_tests, List.length-map}}
-use Rattle.jvm_types.specs.{Members.is_synchronized, declared.{limits.TheConstants.MOST_FRAMES}}
+use Rattle.std.proofs.Common.{◌≡◌, ℕ, zero, suc, ◌+◌, ◌*◌, ◌<◌, ◌≤◌, false, cond, List, [], ◌∷◌, length, Option, Some, None, refl, ap, ◌∙◌, subst, arith, length-append, ◌==◌, slice_get}
+use Rattle.std.proofs.{Math.Nat.{le-max_left, le-max_right}, lemmas.{Bool.Decides.nat_tests}}
+use Rattle.jvm_types.specs.{declared.{limits.TheConstants.MOST_FRAMES}}
 use Rattle.checked_program.specs.{LockTags.TagShape, MarkedProgram.MarkedProgram, TaggedCode.tagged_by, declared.tag.Tags.Tags}
-use Rattle.machine_types.specs.{Frames.monitor_of, HeldMonitors.{held_at, held_in_frame, most_in, most_held, places_of}, Shown.{Shows, ShowBelow, Show, own_entry, tag_value}}
+use Rattle.machine_types.specs.{HeldMonitors.{held_at, held_in_frame, most_in, most_held, places_of}, Shown.{Shows, ShowBelow, Show}}
 use Rattle.machine_types.specs.{Standing.{Operands, Whole}, Structure.{AreHeldOnce, Stands, IsAs, count_in, held_depth, once_at}, Threads.Frame, declared.{lock.Held.Held, phase.Phase.Phase}}
-use Rattle.laws_threads.{specs.HeldLaws.{AddsHeld, HeldHasRoom}}
-use Rattle.laws_threads.proofs.Tests.{either_way}
+use Rattle.laws_threads.{specs.HeldLaws.{AddsHeld, HeldHasRoom}, proofs.ShownLengths.shown_length}
 use Rattle.machine_types.specs.declared.lock.Kept.TheVariants as keeps
 use Rattle.machine_types.specs.declared.phase.Phase.TheVariants as phases
 

@@ -1,8 +1,7 @@
 -- The bounds of what a thread holds, when a monitor is put on the held list or taken from it.
 use Rattle.std.{proofs.{Common.{◌≡◌, ℕ, ◌+◌, ◌≤◌, Bool, List, [], ◌∷◌, Some, arith, ◌==◌, IfSome, if◌then◌else◌}, lemmas.Bool.Decides.nat_tests}, specs.List.AllByRecursion}
 use Rattle.machine_types.specs.{Bounds.{KeptFits, flat_held}, HeldMonitors.{held_at, with_held, without_held}, declared.lock.{Held.Held}}
-use Rattle.laws_threads.proofs.HeldLists.{held_monitor}
-use Rattle.laws_threads.proofs.Tests.{either_way}
+use Rattle.laws_threads.proofs.{HeldLists.held_monitor, Tests.either_way}
 
 -- ---- each monitor
 

@@ -1,6 +1,5 @@
 -- What is held of a monitor when one was put on the held list, or taken from it.
-use Rattle.std.{proofs.Common.{◌≡◌, ℕ, ◌+◌, ◌<◌, Bool, cond, List, [], ◌∷◌, Option, Some, None, refl, ap, arith, ◌==◌, option_map}, specs.Prelude.unwrap_or}
-use Rattle.std.proofs.lemmas.Bool.Decides.{nat_tests}
+use Rattle.std.{specs.Prelude.unwrap_or, proofs.{Common.{◌≡◌, ℕ, ◌+◌, ◌<◌, Bool, cond, List, [], ◌∷◌, Option, Some, None, refl, ap, arith, ◌==◌, option_map}, lemmas.Bool.Decides.nat_tests}}
 use Rattle.machine_types.specs.{HeldMonitors.{held_at, with_held, without_held, shallower}, Structure.{AreHeldOnce, held_depth, once_at}, declared.lock.{Held.Held, Kept.Kept}}
 use Rattle.laws_threads.proofs.Tests.{either_way}
 

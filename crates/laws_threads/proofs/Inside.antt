@@ -5,9 +5,8 @@ use Rattle.jvm_types.specs.{Members.is_synchronized, ProgramInvariant.site_in, V
 use Rattle.checked_program.specs.{LockTags.TagShape, MarkedProgram.{MarkedProgram, IsMarked}, SectionLaws.{HasThis, ReadsOnly}}
 use Rattle.laws_sections.proofs.MarkedReads.{on_receiver}
 use Rattle.machine_types.specs.{Elision.put_back, Frames.{Top, effect_at, monitor_of, top_row}, Shown.{Shows, Show}, Standing.{Standing, Operands, Whole, tags_of}}
-use Rattle.machine_types.specs.{Structure.{IsPhaseInside, Stands, AttemptStands, AttemptStandsIn, Finishes, RunsSection, frames_inside, section_of}, Threads.{Frame, Attempt}, declared.effect.Effect.Effect}
-use Rattle.machine_types.specs.declared.effect.Effect.TheVariants.{Indexes, Calls, Returns, Leaves}
-use Rattle.machine_types.specs.declared.{lock.Held.Held, phase.Phase.Phase}
+use Rattle.machine_types.specs.{Structure.{IsPhaseInside, Stands, AttemptStands, AttemptStandsIn, Finishes, RunsSection, frames_inside, section_of}, Threads.{Frame, Attempt}}
+use Rattle.machine_types.specs.declared.{effect.Effect.{Effect, TheVariants.{Indexes, Calls, Returns, Leaves}}, lock.Held.Held, phase.Phase.Phase}
 use Rattle.laws_threads.{specs.InsideEffects.{MayDo, InsideMayDo, TakesOwned}, proofs.{Base.{entry_of, of_monitor}, CallOps.called_on, EffectOps.{Does, does}, FrameReturns.leaves_none, FramesInside.one_more}}
 use Rattle.laws_threads.proofs.{SectionFrames.{have_this, part_of, Runs, runs_of, row_stands, on_object, on_class, reads, exits, locking_on}, Standings.{top_here, top_at_standing, one_tags}}
 use Rattle.jvm_types.specs.declared.code.Op.TheVariants as ops

@@ -1,5 +1,4 @@
 -- A thread makes an instruction.
-use Rattle.laws_threads.proofs.Tests.{either_way}
 use Rattle.std.proofs.Common.{◌≡◌, ℕ, ◌+◌, Bool, true, cond, List, [], ◌∷◌, ◌++◌, Option, Some, None, refl, sym, ap, ◌∙◌, subst, arith, slice_get, option_map}
 use Rattle.jvm_types.specs.{Members.is_synchronized, declared.code.Insn.Insn}
 use Rattle.jvm_types.specs.declared.{outcome.Thrown.TheVariants.{StackOverflowError, IllegalMonitorStateException, OutOfMemoryError, ArrayIndexOutOfBoundsException}, program.MethodInfo.MethodInfo}
@@ -9,10 +8,10 @@ use Rattle.machine_types.specs.{HeldMonitors.held_at, Instructions.{made, printe
 use Rattle.machine_types.specs.{ReadyObjects.{ready, thrown_of}, Shown.Show, Standing.Whole}
 use Rattle.machine_types.specs.{Structure.{TopIs, AreHeldOnce, IsFlat, IsFat, Stands, AttemptStandsIn, is_element_op, count_in, held_depth, tried_depth, once_at}, Threads.{Frame, Attempt, Thread}}
 use Rattle.machine_types.specs.{Words.{header_class, header_length, value_word}, declared.{effect.Effect.Effect, lock.{Held.Held, Kept.Kept}, phase.Phase.Phase}}
-use Rattle.laws_threads.specs.{CallLaws.{callee_frame}, InsideEffects.MayDo, InsideMoves.GoesAlong, MoveLaws.goes_to, StructureLaws.StaysStructured, ThrowLaws.may_throw}
+use Rattle.laws_threads.specs.{CallLaws.callee_frame, InsideEffects.MayDo, InsideMoves.GoesAlong, MoveLaws.goes_to, StructureLaws.StaysStructured, ThrowLaws.may_throw}
 use Rattle.laws_threads.proofs.{ElementEffects.element_at, FrameCalls.{calls_law, call_enters_law}, FramePlaces.tops_stand_law, FrameReturns.returns_law, FrameThrows.{effects_throw_law, throws_law}}
 use Rattle.laws_threads.proofs.{GoingOn.{back_shows, OnwardShows, AttemptGoesOn, none_goes_on, onward_stands, going}, Inside.{inside_may, stays_in}, MonitorMoves.{enters_law, leaves_law}}
-use Rattle.laws_threads.proofs.{MoveProofs.{follow_law, effects_law, making_law}, Steps.steps_inside}
+use Rattle.laws_threads.proofs.{MoveProofs.{follow_law, effects_law, making_law}, Steps.steps_inside, Tests.either_way}
 use Rattle.laws_threads.proofs.{ThreadMove.{if_either, Asks, WaitsFrom, IsNotify, of_one, of_all, Refuses, past_end, no_memory, waits_unheld, notifies_unheld}, Turns.{running, no_attempt}}
 use Rattle.jvm_types.specs.declared.outcome.End.TheVariants as ends
 use Rattle.jvm_types.specs.declared.outcome.Thrown as outcomes

@@ -1,22 +1,20 @@
 -- An event keeps the numbers of a thread within their bounds.
-use Rattle.std.proofs.Common.{◌≡◌, ℕ, ◌/◌, ◌%◌, zero, suc, ◌+◌, ◌≤◌, Bool, true, List, [], ◌∷◌, Option, Some, None, refl, sym, subst, ◌<◌, ◌∙◌, arith, ap, if◌then◌else◌, option_map, slice_get, find, IfSome}
+use Rattle.std.proofs.Common.{◌≡◌, ℕ, ◌/◌, ◌%◌, zero, suc, ◌+◌, ◌≤◌, Bool, List, [], ◌∷◌, Option, Some, None, refl, sym, subst, ◌<◌, ◌∙◌, arith, ap, if◌then◌else◌, option_map, slice_get, find, IfSome}
 use Rattle.std.{specs.{List.{AllByRecursion, range_with_len}, Prelude.unwrap_or}, proofs.lemmas.Bool.Decides.nat_tests}
 use Rattle.lists.proofs.ListLaws.{same_some}
 use Rattle.jvm_types.specs.{Numbers.has_flag, declared.{limits.TheConstants.MOST_WORKERS, outcome.{End.End, Thrown.TheVariants.StackOverflowError}, program.Program.Program}}
 use Rattle.checked_program.specs.MarkedProgram.{MarkedProgram}
 use Rattle.machine_types.specs.{Bounds.{TurnsFit, under_way, IsBounded, EntryFits, KeptFits, PhaseFits, StepsFit, WaitFits, attempt_under_way, entry_under_way}, Events.{element_made, moved}}
-use Rattle.machine_types.specs.{FoundWords.{WordFits, HasCount, effect_content, run_content, content_at}, Frames.{Top, top_of, effect_at, has_room, entry_frame, pushed, went_on, handler_at, making}}
+use Rattle.machine_types.specs.{FoundWords.{WordFits, effect_content, run_content, content_at}, Frames.{Top, top_of, effect_at, has_room, entry_frame, pushed, went_on, handler_at, making}}
 use Rattle.machine_types.specs.{Going.{with_phase, failed_turn, goes_on, goes_on_if}, HeldMonitors.held_at, Instructions.{begun, ran}, Ints.low, Lawful.IsTypedWithin}
-use Rattle.machine_types.specs.{LockWords.{lock_of, is_lock_word}, Monitors.{bit_of, lowest_of, takes}, Onward.{Running, Uncaught, rooted, root_arguments, Onward, handed, threw}}
+use Rattle.machine_types.specs.{LockWords.{lock_of}, Monitors.{bit_of, lowest_of, takes}, Onward.{Running, Uncaught, rooted, root_arguments, Onward, handed, threw}}
 use Rattle.machine_types.specs.{ReadyObjects.class_of, Structure.{Stands, AttemptStandsIn, IsStructured, IsFlat}, Threads.{Frame, Attempt, Thread}, Words.value_word, declared.effect.Effect.Effect}
 use Rattle.machine_types.specs.declared.{effect.Effect.TheVariants.{Raises, Calls, Stuck}, lock.{Held.Held, Kept.Kept}, phase.Phase.Phase}
-use Rattle.laws_threads.specs.{BoundLaws.BoundsAreKept, TopFrames.IsAllowed}
+use Rattle.laws_threads.{specs.{BoundLaws.BoundsAreKept, TopFrames.IsAllowed}, proofs.{Tests.either_way, TopEffects.effects_allowed}}
 use Rattle.laws_threads.proofs.BoundedInstructions.{attempt_fails, Begins, begins_here, calm, goes_any, HasDone, does_all, waited, asked, made_bounded, printed_bounded}
 use Rattle.laws_threads.proofs.BoundedMonitors.{LockFits, lock_fits, at_found, taken, began, deeper_fits, inner_fits, Leaves, let_go, shallower_fits, finished, left_inner, fattened, gone_to_wait, taken_back}
-use Rattle.laws_threads.proofs.{BoundedOnward.{Fit, Spends, spends_less, bounded, fit_of, spends_of, failing, goes, goes_if, EntersNone, handed_enters_none}, HeldBounds.{found as found_held}}
 use Rattle.laws_threads.proofs.ThreadMove.{if_either, if_mapped, Looks, Lacks, GoesBy, Checks, LeadsTo, TurnsTo, Takes, Move, becomes, tried_attempt, tried_monitor, ran_made, by_move, looks_in, gives_up_in}
-use Rattle.laws_threads.proofs.TopEffects.{effects_allowed}
-use Rattle.laws_threads.proofs.Tests.{either_way}
+use Rattle.laws_threads.proofs.{BoundedOnward.{Fit, Spends, spends_less, bounded, fit_of, spends_of, failing, goes, goes_if, EntersNone, handed_enters_none}, HeldBounds.{found as found_held}}
 use Rattle.jvm_types.specs.declared.outcome.End.TheVariants as ends
 use Rattle.machine_types.specs.declared.lock.Kept.TheVariants as keeps
 use Rattle.machine_types.specs.declared.phase.Phase.TheVariants as phases

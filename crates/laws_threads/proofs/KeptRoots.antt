@@ -4,17 +4,13 @@ use Rattle.std.{specs.List.AllByRecursion, proofs.lemmas.Option.slice_get_within
 use Rattle.jvm_types.specs.{Members.{is_synchronized, is_class_init_name}, Numbers.has_number, declared.outcome.{Counts.Counts, Thrown.{Thrown, TheVariants.StackOverflowError}}}
 use Rattle.jvm_types.specs.declared.program.{MethodInfo.MethodInfo, Program.Program, Row.Row}
 use Rattle.checked_program.specs.MarkedProgram.{MarkedProgram}
-use Rattle.machine_types.specs.{Bounds.{part_roots, FramesFit, IsRooted}, Events.thread_started}
-use Rattle.machine_types.specs.Frames.{Top, top_of, frames_of, went_on, has_room, waiting, entry_frame, arguments_of, monitor_of, returned, handler_at}
-use Rattle.machine_types.specs.{Going.{with_phase, runs, goes_on, goes_on_if, goes_after}, HeldMonitors.{with_held, without_held, shallower}, Instructions.printed}
-use Rattle.machine_types.specs.Monitors.{grown}
+use Rattle.machine_types.specs.{Bounds.{part_roots, FramesFit, IsRooted}, Events.thread_started, Going.{with_phase, runs, goes_on, goes_on_if, goes_after}, Instructions.printed, Monitors.grown}
+use Rattle.machine_types.specs.{Frames.{Top, top_of, frames_of, went_on, has_room, waiting, entry_frame, arguments_of, monitor_of, returned, handler_at}, Parts.{numbers_of, entries_named, init_roots}}
+use Rattle.machine_types.specs.{HeldMonitors.{with_held, without_held, shallower}, ReadyObjects.{class_of, thrown_of}, Structure.HasFrame, Threads.{Frame, Attempt, Thread}, Words.header_class}
 use Rattle.machine_types.specs.Onward.{Onward, Running, Throwing, Entering, Leaving, RootReturned, Uncaught, threw, done, entered, called, rooted, root_arguments, back, unwound, handed, after}
-use Rattle.machine_types.specs.{Parts.{numbers_of, entries_named, init_roots}, ReadyObjects.{class_of, thrown_of}, Structure.HasFrame, Threads.{Frame, Attempt, Thread}, Words.header_class}
-use Rattle.machine_types.specs.declared.{effect.Effect.{Effect, TheVariants.{Raises, Calls, Returns}}, lock.{Held.Held, Kept.Kept}}
-use Rattle.machine_types.specs.declared.phase.{After.After, Phase.Phase}
-use Rattle.laws_threads.{specs.RootLaws.RootsAreKept, proofs.ThreadMove.{looks_in, takes_in, if_either, if_mapped, GoesBy, LeadsTo, TurnsTo, GivesUp, Asks, WaitsFrom, Move, becomes, mover, by_move, of_mover, runs_to, over_to, turns_to}}
-use Rattle.laws_threads.proofs.GoingOn.{pushed_frame}
-use Rattle.laws_threads.proofs.Roots.{numbered, numbers_in}
+use Rattle.machine_types.specs.declared.{effect.Effect.{Effect, TheVariants.{Raises, Calls, Returns}}, lock.{Held.Held, Kept.Kept}, phase.{After.After, Phase.Phase}}
+use Rattle.laws_threads.{specs.RootLaws.RootsAreKept, proofs.{GoingOn.pushed_frame, Roots.{numbered, numbers_in}, ThreadMove.{looks_in, takes_in, if_either, if_mapped, GoesBy, LeadsTo, TurnsTo}}}
+use Rattle.laws_threads.proofs.ThreadMove.{GivesUp, Asks, WaitsFrom, Move, becomes, mover, by_move, of_mover, runs_to, over_to, turns_to}
 use Rattle.machine_types.specs.declared.phase.After.TheVariants as afters
 use Rattle.machine_types.specs.declared.phase.Phase.TheVariants as phases
 use Rattle.machine_types.specs.declared.phase.Toward.TheVariants as towards
@@ -197,8 +193,11 @@ module _ (c : MarkedProgram) (s : Thread) (got : ℕ) (h : IsRooted c.program s)
   moved_framed _ (moves.leaves_outer m a e l t) f = left_framed (with_held (shallower e) s.held) s.attempt s.counts a (frame_in (phases.Leave m a) s.frames s.roots tt f)
   moved_framed _ (moves.leaves_inside m a t inner k e) f = left_framed s.held (Some (record t { inner = inner })) s.counts a (frame_in (phases.Leave m a) s.frames s.roots tt f)
   moved_framed _ (moves.finishes_try m a t k e y) f = left_framed s.held None (record s.counts { elided = s.counts.elided + 1 }) a (frame_in (phases.Leave m a) s.frames s.roots tt f)
-  moved_framed _ (moves.fattens_lock m r toward e l) f = record { roots = h.roots; frames = framed (grown m r toward) s.frames s.roots
-      (elim toward as (λ to. IsNoStart (grown m r to)) [ towards.Leave a ↦ tt | towards.Wait ↦ tt ]) (frame_in (phases.FatIn m r toward) s.frames s.roots tt f) }
+  moved_framed _ (moves.fattens_lock m r toward e l) f = record {
+    roots = h.roots;
+    frames = framed (grown m r toward) s.frames s.roots
+        (elim toward as (λ to. IsNoStart (grown m r to)) [ towards.Leave a ↦ tt | towards.Wait ↦ tt ]) (frame_in (phases.FatIn m r toward) s.frames s.roots tt f);
+  }
   moved_framed _ (moves.gives_up_to_wait m r e l) f = record { roots = h.roots; frames = framed (phases.WaitLook m r e.depth) s.frames s.roots tt (frame_in (phases.WaitOut m r) s.frames s.roots tt f) }
   moved_framed _ (moves.starts number roots e) f = subst (IsRooted c.program) (ap (thread_started c.program s) e) (begun_root c.program s s.roots h.roots f)
   moved_framed was k f = record { roots = h.roots; frames = runs_framed was tt f }

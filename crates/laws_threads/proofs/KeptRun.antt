@@ -2,9 +2,8 @@
 use Rattle.std.{proofs.Common.{◌≡◌, ℕ, ◌<◌, ◌≤◌, inl, inr, List, [], ◌∷◌, ◌++◌, length, Option, Some, None, refl, ap, sym, subst, ◌∙◌, arith, map, drop}, specs.List.AllByRecursion}
 use Rattle.std.proofs.lemmas.Bool.Decides.{nat_tests}
 use Rattle.lists.proofs.ListLaws.{same_some}
-use Rattle.jvm_types.specs.{CodeTable.{value_of, locals_after}, ProgramInvariant.IsProgram, Verifying.edges}
-use Rattle.jvm_types.specs.declared.{op_row.{Given.{Given, TheVariants.Fresh}, OpRow.OpRow}, outcome.Thrown.Thrown, program.{MethodInfo.MethodInfo, Program.Program}, typing.VType.VType}
-use Rattle.jvm_types.{specs.declared.typing.VType.TheVariants.{Ref, New}, proofs.TypeOrder.subclass_self}
+use Rattle.jvm_types.specs.{CodeTable.{value_of, locals_after}, ProgramInvariant.IsProgram, Verifying.edges, declared.{op_row.{Given.{Given, TheVariants.Fresh}, OpRow.OpRow}, outcome.Thrown.Thrown}}
+use Rattle.jvm_types.{specs.declared.{program.{MethodInfo.MethodInfo, Program.Program}, typing.VType.{VType, TheVariants.{Ref, New}}}, proofs.TypeOrder.subclass_self}
 use Rattle.checked_program.specs.{MarkedProgram.{MarkedProgram, IsMarked}, TaggedCode.row_of}
 use Rattle.machine_types.specs.{Frames.{effect_at, went_on, making, pushed, Top, top_of}, Ints.low, Onward.{Onward, Running, threw, done}, Threads.Frame}
 use Rattle.machine_types.specs.{Typed.{Classes, Holds, FrameHolds, HoldBelow, FramesHold, ElementStands, with_object}, Words.{header_class, value_word}, declared.effect.Effect.Effect}

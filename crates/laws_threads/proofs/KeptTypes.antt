@@ -3,9 +3,8 @@ use Rattle.std.proofs.Common.{ℕ, ◌<◌, ◌^◌, inr, List, Option, Some, No
 use Rattle.jvm_types.{specs.{ProgramInvariant.IsProgram, declared.{outcome.Thrown.Thrown, program.{Kind.Kind, Program.Program, Target.Target}}}, proofs.TypeOrder.subclass_self}
 use Rattle.checked_program.specs.MarkedProgram.{MarkedProgram, IsMarked}
 use Rattle.machine_types.specs.{Bounds.IsRooted, Events.moved, FoundWords.{WordFits, kind_content, field_content, effect_content, variable_content, content_at, run_content}, Frames.{Top, effect_at}}
-use Rattle.machine_types.specs.{Lawful.{within, NewFits, IsTypedWithin}, ReadyObjects.ready, Structure.{IsAs, Stands, PhaseShows, AttemptStandsIn}, Threads.{Frame, Attempt, Thread}}
-use Rattle.machine_types.specs.{Typed.{KindHolds, PhaseHolds}, declared.{effect.Effect.{Effect, TheVariants.{Reads, Measures, Raises}}, lock.Held.Held, phase.Phase.Phase}}
-use Rattle.machine_types.proofs.ClassObjects.{class_object_below}
+use Rattle.machine_types.specs.{Lawful.{within, NewFits, IsTypedWithin}, ReadyObjects.ready, Structure.{IsAs, Stands, PhaseShows, AttemptStandsIn}, Threads.{Frame, Attempt, Thread}, Typed.KindHolds}
+use Rattle.machine_types.{specs.{Typed.PhaseHolds, declared.{effect.Effect.{Effect, TheVariants.{Reads, Measures, Raises}}, lock.Held.Held, phase.Phase.Phase}}, proofs.ClassObjects.class_object_below}
 use Rattle.laws_threads.{specs.{Allowed.IsByMachine, KeptTypes.TypesAreKept, TopFrames.IsAllowed}, proofs.KeptPhases.{NeedsShown, PhaseFinds, StartTyped, moved_typed}}
 use Rattle.laws_threads.proofs.{Onwards.{HasObjects, FoundHolds}, Roots.starts_typed, ThreadTypes.{IsBasedIn, Rests, TypedBy}, TopEffects.effects_allowed}
 use Rattle.jvm_types.specs.declared.outcome.Thrown.TheVariants as thrown

@@ -3,7 +3,7 @@ use Rattle.std.proofs.Common.{◌≡◌, ℕ, List, ◌∷◌, Option, Some, ap,
 use Rattle.lists.proofs.ListLaws.{same_some}
 use Rattle.jvm_types.specs.{Types.TypeFrame, Verifying.IsLaidOut, declared.{program.MethodInfo.MethodInfo, typing.Typing.Typing}}
 use Rattle.laws_programs.proofs.{CodeOrder.{methods_laid_out, one_number, have_targets}, EdgeTargets.lands}
-use Rattle.checked_program.specs.{CheckedLaws.{AreFramesOf, IsPlace, HoldsAtInstruction}, LockTags.{TagShape, IsShapeBelow}, MarkedProgram.{MarkedProgram, IsMarked, checked_part}, TaggedCode.row_of}
+use Rattle.checked_program.specs.{CheckedLaws.{IsPlace, HoldsAtInstruction}, LockTags.{TagShape, IsShapeBelow}, MarkedProgram.{MarkedProgram, IsMarked, checked_part}, TaggedCode.row_of}
 use Rattle.checked_program.{specs.Tagging.IsTagAssignment, proofs.CheckedPlaces.{checked_sound, places_hold_all}}
 use Rattle.laws_sections.proofs.VisitsLocal.{landing}
 use Rattle.machine_types.specs.{Frames.top_of, Standing.{Standing, tags_of}, Threads.Frame, Typed.{Classes, FrameHolds}}

@@ -3,9 +3,8 @@ use Rattle.std.proofs.Common.{inr, ◌≡◌, ⊎_elim, ℕ, suc, ◌+◌, Bool,
 use Rattle.lists.proofs.ListLaws.{same_some}
 use Rattle.jvm_types.specs.declared.code.Op.{Op}
 use Rattle.checked_program.specs.{LockTags.TagShape, MarkedProgram.{MarkedProgram, IsMarked}}
-use Rattle.machine_types.specs.{Frames.{top_of, given, given_back, returned}, Onward.{Onward, Running, back, unwound}}
-use Rattle.machine_types.specs.{Structure.{IsLeaving, Stands, AttemptStands, Finishes, frames_inside, operands_after, TopLeaves, count_in, held_depth, tried_depth}, Threads.{Frame, Attempt}}
-use Rattle.machine_types.specs.declared.{lock.Held.Held, phase.After.After}
+use Rattle.machine_types.specs.{Frames.{top_of, given, given_back, returned}, Onward.{Onward, Running, back, unwound}, Threads.{Frame, Attempt}, declared.{lock.Held.Held, phase.After.After}}
+use Rattle.machine_types.specs.Structure.{IsLeaving, Stands, AttemptStands, Finishes, frames_inside, operands_after, TopLeaves, count_in, held_depth, tried_depth}
 use Rattle.laws_threads.{specs.InsideMoves.{GoesOnInside, OnwardStands, LeavesInside}, proofs.{AttemptMoves.{only_entry, returned_on, unwound_on}, Base.{entry_of, as_many, none_inside}}}
 use Rattle.laws_threads.proofs.{Inside.{runs_inside, stands_on}, SectionFrames.Runs, FramePlaces.has_top, Standings.one_tags}
 use Rattle.machine_types.specs.declared.phase.After.TheVariants as afters

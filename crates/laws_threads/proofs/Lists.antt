@@ -1,7 +1,6 @@
 -- Items of lists, and lists whose items are related.
-use Rattle.std.proofs.lemmas.{Option.slice_get-map, Slice.Zip.AllZip-long}
-use Rattle.std.{proofs.Common.{◌≡◌, ℕ, option_map, zero, suc, List, [], ◌∷◌, ◌++◌, length, Some, refl, ap, sym, subst, ◌∙◌, slice_get, map, reverse}, specs.List.{AllZip}}
-use Rattle.std.proofs.lemmas.List.{reverse-append, map-append, reverse-reverse}
+use Rattle.std.{specs.List.AllZip, proofs.Common.{◌≡◌, ℕ, option_map, zero, suc, List, [], ◌∷◌, ◌++◌, length, Some, refl, ap, sym, subst, ◌∙◌, slice_get, map, reverse}}
+use Rattle.std.proofs.lemmas.{List.{reverse-append, map-append, reverse-reverse}, Option.slice_get-map, Slice.Zip.AllZip-long}
 use Rattle.lists.proofs.ListLaws.{same_some}
 use Rattle.jvm_types.proofs.ScopeLaws.{zip_append}
 

@@ -1,5 +1,4 @@
 -- What a method of a marked program has: its types and its tags, under their local laws.
-use Rattle.laws_threads.proofs.Tests.{either_way}
 use Rattle.std.{proofs.Common.{◌≡◌, ℕ, suc, Bool, false, cond, List, [], ◌∷◌, map, Option, Some, None, refl, sym, ap, ◌∙◌, subst, arith, ◌==◌, slice_get}, specs.List.AllByRecursion}
 use Rattle.std.proofs.lemmas.Bool.{or_parts, Decides.nat_tests}
 use Rattle.lists.proofs.ListLaws.{same_some}
@@ -8,7 +7,7 @@ use Rattle.checked_program.specs.{LockTags.{TagShape, same_tag}, MarkedProgram.{
 use Rattle.checked_program.{specs.{Visits.frame_at_pc, declared.tag.{Tag.{Tag, TheVariants.{Untagged, This, At}}, Tags.Tags}}, proofs.CheckedPlaces.checked_sound}
 use Rattle.laws_sections.{specs.ReachLaws.is_held, proofs.{TagFree.own_tag_free, TagLocal.tag_local_law}}
 use Rattle.machine_types.specs.{Shown.{IsMade, AreMade, held_tags}, Standing.tags_of}
-use Rattle.laws_threads.proofs.Lists.{zip_at, zip_has, map_at}
+use Rattle.laws_threads.proofs.{Lists.{zip_at, zip_has, map_at}, Tests.either_way}
 use Rattle.jvm_types.specs.Verifying as types
 
 -- ---- a method

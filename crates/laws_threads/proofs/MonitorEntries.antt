@@ -1,10 +1,8 @@
 -- A thread enters a monitor.
-use Rattle.std.proofs.lemmas.Bool.Decides.{nat_tests}
-use Rattle.std.proofs.{Common.{◌≡◌, ℕ, ◌+◌, true, cond, List, ◌∷◌, length, Option, Some, None, refl, sym, ap, subst, arith, ◌==◌}}
+use Rattle.std.proofs.{Common.{◌≡◌, ℕ, ◌+◌, true, cond, List, ◌∷◌, length, Option, Some, None, refl, sym, ap, subst, arith, ◌==◌}, lemmas.Bool.Decides.nat_tests}
 use Rattle.checked_program.specs.MarkedProgram.{MarkedProgram, IsMarked}
 use Rattle.machine_types.specs.{Elision.enters_marked, Going.{with_phase, runs, failed_turn}, HeldMonitors.{held_at, with_held, deeper}, Monitors.{HasNot, claim_by, takes}}
-use Rattle.machine_types.specs.{Structure.{Stands, AttemptStands, AttemptStandsIn, tried_depth, once_at}, Threads.{Frame, Attempt, Thread}, declared.lock.{Held.Held, Kept.Kept}}
-use Rattle.machine_types.specs.declared.phase.Phase.{Phase}
+use Rattle.machine_types.specs.{Structure.{Stands, AttemptStands, AttemptStandsIn, tried_depth, once_at}, Threads.{Frame, Attempt, Thread}, declared.{lock.{Held.Held, Kept.Kept}, phase.Phase.Phase}}
 use Rattle.laws_threads.{specs.{InsideMoves.{BeginsAttempt, EntersInside}, StructureLaws.{StaysStructured, turned_from}}, proofs.GoingOn.entered_frame}
 use Rattle.laws_threads.proofs.{HeldLists.{held_monitor, depth_some, depth_none, depth_put, once_put}, Turns.{TurnsIn, running, turning, no_attempt, held_outside}}
 use Rattle.machine_types.specs.declared.phase.Phase.TheVariants as phases

@@ -2,15 +2,13 @@
 use Rattle.std.proofs.Common.{◌≡◌, ℕ, suc, ◌-◌, ◌<◌, ◌^◌, inl, inr, true, List, [], ◌∷◌, ◌++◌, length, Option, Some, None, refl, ap, sym, subst, ◌∙◌, arith, drop, option_map}
 use Rattle.std.specs.List.{AllByRecursion}
 use Rattle.lists.proofs.ListLaws.{same_some}
-use Rattle.jvm_types.specs.{ClassTree.is_subclass, CodeTable.can_throw, Members.is_synchronized, Verifying.is_return}
-use Rattle.jvm_types.specs.declared.{class_numbers.TheConstants.{CLASS_ITSELF, PRINT_STREAM_CLASS, THROWABLE_CLASS}, outcome.Thrown.Thrown, program.{FieldInfo.FieldInfo, Program.Program, Row.Row}}
-use Rattle.jvm_types.specs.declared.program.Target.{Target}
+use Rattle.jvm_types.specs.{ClassTree.is_subclass, CodeTable.can_throw, Members.is_synchronized, Verifying.is_return, declared.{outcome.Thrown.Thrown, program.{FieldInfo.FieldInfo, Program.Program}}}
+use Rattle.jvm_types.specs.declared.{class_numbers.TheConstants.{CLASS_ITSELF, PRINT_STREAM_CLASS, THROWABLE_CLASS}, program.{Row.Row, Target.Target}}
 use Rattle.laws_programs.proofs.RuleUses.{returns_suit_all}
 use Rattle.checked_program.specs.MarkedProgram.{MarkedProgram, IsMarked}
-use Rattle.machine_types.specs.Frames.{Top, top_of, monitor_of, given_back, given, returned, handler_of, handler_at}
-use Rattle.machine_types.specs.Onward.{Onward, Running, Throwing, Entering, Leaving, RootReturned, Uncaught, returns, back, unwound, handed, dispatched, after}
-use Rattle.machine_types.specs.{ReadyObjects.{ready, class_of, thrown_of, out_object}, Standing.Standing, Structure.{TopIs, AfterShows}, Threads.Frame}
-use Rattle.machine_types.specs.Typed.{Classes, KindHolds, FrameHolds, WaitHolds, HoldBelow, FramesHold, ThrownHolds, FramesThrown, IsException, AfterHolds, IsObject}
+use Rattle.machine_types.specs.{Frames.{Top, top_of, monitor_of, given_back, given, returned, handler_of, handler_at}, ReadyObjects.{ready, class_of, thrown_of, out_object}, Standing.Standing}
+use Rattle.machine_types.specs.{Onward.{Onward, Running, Throwing, Entering, Leaving, RootReturned, Uncaught, returns, back, unwound, handed, dispatched, after}, Structure.{TopIs, AfterShows}}
+use Rattle.machine_types.specs.{Threads.Frame, Typed.{Classes, KindHolds, FrameHolds, WaitHolds, HoldBelow, FramesHold, ThrownHolds, FramesThrown, IsException, AfterHolds, IsObject}}
 use Rattle.machine_types.specs.{Words.{class_object, header_class, header_length}, declared.{effect.Effect.{Effect, TheVariants.{Reads, Measures, Raises}}, phase.After.After}}
 use Rattle.machine_types.specs.declared.phase.After.TheVariants.{Next, Return, Unwind}
 use Rattle.laws_threads.{specs.Allowed.{IsNamedField, IsByMachine}, proofs.{Callers.row_of_call, Landing.{stand_top, rules_at}, Standings.top_here, ThreadMove.if_either, TypedMoves.{given_holds, resumes, catches}}}

@@ -5,11 +5,9 @@ use Rattle.lists.proofs.TestLaws.{both_are_true}
 use Rattle.jvm_types.specs.declared.{outcome.End.End, program.Program.Program}
 use Rattle.laws_programs.proofs.LocalGoing.{at_index}
 use Rattle.checked_program.specs.MarkedProgram.{MarkedProgram}
-use Rattle.machine_types.specs.Accesses.{found_by}
+use Rattle.machine_types.specs.{Accesses.found_by, Events.{wanted, moved}, Parts.{run_roots, done_roots, has_returned, has_finished}, Shown.Show, Standing.Whole, Threads.Thread}
 use Rattle.machine_types.specs.Core.{event_of, start_thread, part_phase, ended_by, may_begin_by, may_begin, with_roots, how_ended, workers_begin, done_begins, part_begins, next_threads}
-use Rattle.machine_types.specs.{Events.{wanted, moved}, Parts.{run_roots, done_roots, has_returned, has_finished}, Shown.Show, Standing.Whole}
-use Rattle.machine_types.specs.{Structure.{AreHeldOnce, Stands, IsAs, IsStructured, Structure, count_in, held_depth, tried_depth}, Threads.Thread}
-use Rattle.machine_types.specs.declared.{config.Config.Config, phase.Phase.Phase}
+use Rattle.machine_types.specs.{Structure.{AreHeldOnce, Stands, IsAs, IsStructured, Structure, count_in, held_depth, tried_depth}, declared.{config.Config.Config, phase.Phase.Phase}}
 use Rattle.laws_threads.specs.{PartLaws.{PartFits, PartsFit, StartFitsParts, EventsFitParts, NextFitsParts, NextKeepsStructure}, StateLaws.counted_of, StructureLaws.counted_by}
 use Rattle.laws_threads.proofs.{Lists.mapped_at, ThreadSteps.over_counts, Turns.{no_attempt, no_try}}
 use Rattle.jvm_types.specs.declared.outcome.End.TheVariants as ends

@@ -1,8 +1,6 @@
 -- The frame of a root is typed: it is a static method that takes nothing or the number of the thread.
-use Rattle.std.proofs.lemmas.Bool.{cond_both}
-use Rattle.laws_threads.proofs.{Tests.either_way, ThreadMove.if_either}
+use Rattle.std.{specs.List.{AllZip, AllByRecursion}, proofs.lemmas.{Bool.{cond_both, Decides.nat_tests}, Slice.Eq.bytes_eq-Decides}}
 use Rattle.std.proofs.Common.{◌≡◌, ℕ, zero, suc, ◌+◌, ◌<◌, ◌^◌, ◌⊎◌, inl, inr, Bool, true, false, ◌&&◌, ◌||◌, List, [], ◌∷◌, ◌++◌, length, Option, Some, None, refl, ap, sym, subst, ◌∙◌, arith, ◌==◌, nat_lt, codes, bytes_eq, slice_get, map, option_map, if◌then◌else◌, IsTrue}
-use Rattle.std.{specs.List.{AllZip, AllByRecursion}, proofs.lemmas.{Bool.Decides.nat_tests, Slice.Eq.bytes_eq-Decides}}
 use Rattle.lists.proofs.{ListLaws.same_some, TestLaws.{both_true, both_are_true, second_true}}
 use Rattle.jvm_types.specs.{ClassNames.file_class, CodeTable.type_of, LinkFaults.{is_run, is_entry}, Members.{is_static, is_class_init_name}, Numbers.has_number, ProgramInvariant.IsProgram}
 use Rattle.jvm_types.specs.declared.{outcome.Thrown.TheVariants.StackOverflowError, program.{Kind.Kind, MethodInfo.MethodInfo, Program.Program}}
@@ -10,6 +8,7 @@ use Rattle.laws_programs.{specs.RootLaws.IsRoot, proofs.RootMethods.{class_inits
 use Rattle.checked_program.specs.MarkedProgram.{MarkedProgram, IsMarked}
 use Rattle.machine_types.specs.{Bounds.part_roots, Events.thread_started, Frames.{has_room, entry_frame, first_or_null}, Onward.{Running, Uncaught, root_arguments, rooted}}
 use Rattle.machine_types.specs.{Parts.{numbers_of, is_entry_named, entries_named, init_roots}, Threads.Thread, Typed.{Classes, Holds}}
+use Rattle.laws_threads.proofs.{Tests.either_way, ThreadMove.if_either}
 use Rattle.laws_threads.proofs.{CalledEntries.{static_values, enters}, Onwards.{keeps_none, Onwards, IfOnwards}, ThreadTypes.{IsBasedIn, Rests, TypedBy, goes_if_typed}}
 use Rattle.jvm_types.specs.declared.program.Kind.TheVariants as kinds
 

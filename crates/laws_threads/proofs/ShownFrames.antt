@@ -5,8 +5,7 @@ use Rattle.jvm_types.specs.declared.program.MethodInfo.{MethodInfo}
 use Rattle.checked_program.specs.{CheckedLaws.HoldsAtInstruction, LockTags.{TagShape, AreTagsBelow, IsShapeBelow}, MarkedProgram.{MarkedProgram, IsMarked}, declared.tag.Tag.Tag}
 use Rattle.machine_types.specs.{Frames.{Top, top_of, effect_at}, Shown.{tag_value, HaveValues, StackShows, shown_entries, Shows, ShowBelow, Show, own_entry}, Standing.{Standing, Operands, Whole}}
 use Rattle.machine_types.specs.Threads.{Frame}
-use Rattle.laws_threads.proofs.{EffectsOfInsns.{Fits, effect_fits}, FramePlaces.{of_standing, Lands, lands, top_by, has_top}, MarkedMethods.are_made, TagValues.weaker}
-use Rattle.laws_threads.proofs.Landing.{rules_at}
+use Rattle.laws_threads.proofs.{EffectsOfInsns.{Fits, effect_fits}, FramePlaces.{of_standing, Lands, lands, top_by, has_top}, Landing.rules_at, MarkedMethods.are_made, TagValues.weaker}
 use Rattle.checked_program.specs.Visits as visits
 
 module _ (c : MarkedProgram) (is : IsMarked c) where

@@ -1,12 +1,10 @@
 -- How many entries frames show hangs on where they stand alone. So the outermost exit of an attempt is known by its place.
-use Rattle.std.proofs.lemmas.Bool.Decides.{nat_tests}
-use Rattle.std.proofs.{Common.{◌≡◌, ℕ, ◌+◌, Bool, List, [], ◌∷◌, length, map, Some, refl, sym, ap, ◌∙◌, arith, if◌then◌else◌}, lemmas.List.{length-append, length-map}}
+use Rattle.std.proofs.{Common.{◌≡◌, ℕ, ◌+◌, Bool, List, [], ◌∷◌, length, map, Some, refl, sym, ap, ◌∙◌, arith, if◌then◌else◌}, lemmas.{Bool.Decides.nat_tests, List.{length-append, length-map}}}
 use Rattle.jvm_types.specs.{Members.is_synchronized, declared.program.{MethodInfo.MethodInfo, Program.Program}}
 use Rattle.checked_program.specs.{LockTags.TagShape, MarkedProgram.{MarkedProgram, IsMarked}}
 use Rattle.machine_types.specs.{Frames.monitor_of, Shown.{tag_value, own_entry, Shows, ShowBelow, Show}, Standing.{Operands, Whole}, Structure.{count_in, once_at, held_depth, tried_depth}}
 use Rattle.machine_types.specs.{Threads.{Frame, Attempt}, declared.lock.Held.Held}
-use Rattle.laws_threads.proofs.{Counts.longer_by, Standings.{one_method, one_tags}}
-use Rattle.laws_threads.proofs.Tests.{either_way}
+use Rattle.laws_threads.proofs.{Counts.longer_by, Standings.{one_method, one_tags}, Tests.either_way}
 
 abbrev pub own_count : MethodInfo → ℕ
 own_count m = if is_synchronized m.flags then 1 else 0

@@ -4,9 +4,8 @@ use Rattle.std.proofs.lemmas.Bool.Decides.{nat_tests}
 use Rattle.checked_program.specs.MarkedProgram.{MarkedProgram, IsMarked}
 use Rattle.machine_types.specs.{Accesses.found_by, Bounds.IsRooted, Core.{Core, event_of}, Events.{wanted, moved}, PlainMemory.Object, Structure.{IsStructured, Structure}, Threads.Thread}
 use Rattle.machine_types.specs.{Typed.{HasClass, ThreadHolds}, declared.phase.Phase.Phase}
-use Rattle.laws_threads.specs.{InsideMoves.{BeginsAttempt, EntersInside}, StateLaws.{counted_of, counted_phase_at, EventsKeepStructure}, StructureLaws.StaysStructured}
+use Rattle.laws_threads.{specs.{InsideMoves.{BeginsAttempt, EntersInside}, StateLaws.{counted_of, counted_phase_at, EventsKeepStructure}, StructureLaws.StaysStructured}, proofs.Tests.either_way}
 use Rattle.laws_threads.proofs.ThreadSteps.{structure_kept}
-use Rattle.laws_threads.proofs.Tests.{either_way}
 
 -- ---- one thread of a list is changed
 

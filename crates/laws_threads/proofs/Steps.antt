@@ -1,20 +1,16 @@
 -- An attempt stands behind each instruction that may stand inside it.
-use Rattle.std.proofs.lemmas.Bool.{cond_both}
-use Rattle.std.proofs.Common.{◌≡◌, inl, inr, ⊎_elim, ℕ, ◌≤◌, true, List, [], ◌∷◌, length, Option, Some, None, refl, sym, ap, ◌∙◌, subst, arith, slice_get, option_map}
+use Rattle.std.proofs.{Common.{◌≡◌, inl, inr, ⊎_elim, ℕ, ◌≤◌, true, List, [], ◌∷◌, length, Option, Some, None, refl, sym, ap, ◌∙◌, subst, arith, slice_get, option_map}, lemmas.Bool.cond_both}
 use Rattle.lists.proofs.{ListLaws.same_some, TestLaws.first_true}
 use Rattle.jvm_types.specs.{CodeTable.falls_through, Members.is_synchronized, Numbers.has_number, ProgramInvariant.site_in, Verifying.{edges, is_return}, declared.code.{Insn.Insn, Op.Op}}
 use Rattle.jvm_types.specs.declared.{outcome.Thrown.{Thrown, TheVariants.StackOverflowError}, program.{MethodInfo.MethodInfo, Target.Target}}
 use Rattle.checked_program.specs.{MarkedProgram.{MarkedProgram, IsMarked}, SectionLaws.{HasThis, ReadsOnly}, TaggedCode.{onward, row_of}, Tagging.tags_after, declared.section.Mode.Mode}
 use Rattle.machine_types.specs.Frames.{Top, effect_at, top_row, frame_on, went, went_on, waiting, taken_from, frames_of, has_room, entry_frame, arguments_of, monitor_of, given_back, returned}
-use Rattle.machine_types.specs.{Onward.{Onward, Running, Throwing, Entering, Leaving, threw, entered, called, back, returns, done}, ReadyObjects.{ready, thrown_of}}
-use Rattle.machine_types.specs.{Standing.{Standing, Whole, tags_of}, Structure.{IsPhaseInside, AttemptStands, Finishes, RunsSection, frames_inside, is_element_op}, Threads.{Frame, Attempt}}
-use Rattle.machine_types.specs.{Words.{header_class, header_length}, declared.effect.Effect.Effect}
-use Rattle.machine_types.specs.declared.effect.Effect.TheVariants.{Goes, Throws, Reads, Measures, Raises, Calls, Returns, Enters, Leaves}
-use Rattle.machine_types.specs.declared.phase.Phase.{Phase}
+use Rattle.machine_types.specs.{Onward.{Onward, Running, Throwing, Entering, Leaving, threw, entered, called, back, returns, done}, ReadyObjects.{ready, thrown_of}, Threads.{Frame, Attempt}}
+use Rattle.machine_types.specs.{Standing.{Standing, Whole, tags_of}, Structure.{IsPhaseInside, AttemptStands, Finishes, RunsSection, frames_inside, is_element_op}, Words.{header_class, header_length}}
+use Rattle.machine_types.specs.declared.{effect.Effect.{Effect, TheVariants.{Goes, Throws, Reads, Measures, Raises, Calls, Returns, Enters, Leaves}}, phase.Phase.Phase}
 use Rattle.laws_threads.specs.InsideMoves.{GoesOnInside, OnwardStands, GoesAlong, StepsInside, ReadsElement, ElementsInside}
-use Rattle.laws_threads.proofs.{AttemptMoves.{not_alone, next_edge, put_back_top, along, returned_on}, Base.{own_part, entry_of, as_many_at_exit, none_inside}}
-use Rattle.laws_threads.proofs.{CallOps.is_receiver, EffectOps.{Does, GoesElsewhere, goes_behind, OnlyLeaves, exit_leaves}, FrameReturns.leaves_none}
-use Rattle.laws_threads.proofs.FramesInside.{one_more, put_back_over, alone_inside}
+use Rattle.laws_threads.proofs.{AttemptMoves.{not_alone, next_edge, put_back_top, along, returned_on}, Base.{own_part, entry_of, as_many_at_exit, none_inside}, CallOps.is_receiver}
+use Rattle.laws_threads.proofs.{EffectOps.{Does, GoesElsewhere, goes_behind, OnlyLeaves, exit_leaves}, FrameReturns.leaves_none, FramesInside.{one_more, put_back_over, alone_inside}}
 use Rattle.laws_threads.proofs.{Inside.{InAttempt, base_below, runs_inside, stands_on, stays, stack_this, top_shows, top_does, takes_owned, locking, calls_on, leaves_on, not_finished}, Leaves.lands}
 use Rattle.laws_threads.proofs.{SectionFrames.{Runs, IsExitOf, moved, invoked, reads, row_stands}, Standings.{top_here, top_at_standing, stands_too, one_insn}, ThreadMove.if_either}
 use Rattle.jvm_types.specs.declared.code.Op.TheVariants as ops

@@ -1,21 +1,18 @@
 -- What an event makes of its thread: one of these moves, each with what led to it. A law that every event keeps something is a
 -- match on them.
-use Rattle.std.proofs.lemmas.Bool.Decides.{nat_tests}
-use Rattle.std.proofs.Common.{◌≡◌, ℕ, zero, suc, ◌+◌, ◌==◌, nat_lt, Bool, true, false, List, [], ◌∷◌, length, Option, Some, None, refl, sym, subst, arith, nat_le, slice_get, option_map, ◌&&◌, if◌then◌else◌, IfSome}
-use Rattle.std.proofs.lemmas.Bool.{cond_both}
+use Rattle.std.proofs.Common.{◌≡◌, ℕ, zero, suc, ◌+◌, ◌==◌, nat_lt, Bool, true, false, List, [], ◌∷◌, length, Option, Some, None, refl, sym, subst, arith, nat_le, slice_get, option_map, ◌&&◌}
+use Rattle.std.proofs.{Common.{if◌then◌else◌, IfSome}, lemmas.Bool.{cond_both, Decides.nat_tests}}
 use Rattle.lists.proofs.TestLaws.{both_are_true}
 use Rattle.jvm_types.specs.{Numbers.has_flag, declared.{fixed_words.TheConstants.MONITOR_RECORDS, limits.TheConstants.{FLAG_FROM, MOST_ATTEMPTS}, outcome.{End.End, Thrown.Thrown}}}
 use Rattle.jvm_types.specs.declared.{outcome.Thrown.TheVariants.{ArrayIndexOutOfBoundsException, OutOfMemoryError, IllegalMonitorStateException}, program.Program.Program}
 use Rattle.checked_program.specs.MarkedProgram.{MarkedProgram}
-use Rattle.machine_types.specs.{Elision.{enters_marked, may_try, begins, tries, is_checked, is_same, fails, if_same, elided}, Events.{thread_started, element_made, moved}}
+use Rattle.machine_types.specs.{Elision.{enters_marked, may_try, begins, tries, is_checked, is_same, fails, if_same, elided}, Events.{thread_started, element_made, moved}, Ints.low}
 use Rattle.machine_types.specs.{Frames.{Top, top_of, effect_at, went_on, making, pushed, handler_at}, Going.{with_phase, runs, failed_turn, root_over, goes_on, goes_on_if, goes_after}}
 use Rattle.machine_types.specs.{HeldMonitors.{held_at, with_held, without_held, deeper, shallower}, Instructions.{has_print_left, begun, printed, if_held, waits, notifies, did, instructed, ran}}
-use Rattle.machine_types.specs.{Ints.low, LockWords.{word_of_lock, lock_of}}
+use Rattle.machine_types.specs.{LockWords.{word_of_lock, lock_of}, Onward.{Onward, Running, Throwing, Entering, Leaving, RootReturned, Uncaught, threw, rooted, handed, done}, ReadyObjects.class_of}
 use Rattle.machine_types.specs.Monitors.{Claim, Has, Tries, HasNot, claim_by, claim, acquires, enter_moves, takes, finishes, released, lets_go, leave_moves, grows_not, grown, fattens, bit_of, goes_to_wait, retakes, lowest_of}
-use Rattle.machine_types.specs.{Onward.{Onward, Running, Throwing, Entering, Leaving, RootReturned, Uncaught, threw, rooted, handed, done}, ReadyObjects.class_of, Threads.{Frame, Attempt, Thread}}
-use Rattle.machine_types.specs.{Words.{header_length, value_word}, declared.effect.Effect.Effect}
-use Rattle.machine_types.specs.declared.effect.Effect.TheVariants.{Indexes, Makes, Prints, Waits, Notifies, NotifiesAll}
-use Rattle.machine_types.specs.declared.{lock.{Held.Held, Kept.Kept, LockWord.LockWord}, phase.{After.After, Phase.Phase, Toward.Toward}}
+use Rattle.machine_types.specs.{Threads.{Frame, Attempt, Thread}, Words.{header_length, value_word}, declared.{effect.Effect.Effect, lock.{Held.Held, Kept.Kept, LockWord.LockWord}, phase.After.After}}
+use Rattle.machine_types.specs.declared.{effect.Effect.TheVariants.{Indexes, Makes, Prints, Waits, Notifies, NotifiesAll}, phase.{Phase.Phase, Toward.Toward}}
 use Rattle.laws_threads.proofs.Tests.{either_way}
 use Rattle.jvm_types.specs.declared.outcome.End.TheVariants as ends
 use Rattle.machine_types.specs.declared.lock.Kept.TheVariants as keeps

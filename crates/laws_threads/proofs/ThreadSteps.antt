@@ -1,24 +1,21 @@
 -- Each event of a thread keeps its locking structured.
-use Rattle.laws_threads.proofs.Tests.{either_way}
 use Rattle.std.proofs.Common.{◌≡◌, inl, inr, ℕ, Bool, true, cond, List, [], ◌∷◌, ◌++◌, Option, Some, None, refl, sym, ap, ◌∙◌, subst, arith, ◌+◌, nat_lt, slice_get, option_map, ◌&&◌, IsTrue}
 use Rattle.std.specs.List.{AllByRecursion}
 use Rattle.lists.proofs.TestLaws.{both_are_true}
 use Rattle.jvm_types.specs.{Members.is_synchronized, Numbers.has_number, declared.{limits.TheConstants.MOST_ATTEMPTS, outcome.{End.End, Thrown.TheVariants.StackOverflowError}}}
 use Rattle.jvm_types.specs.declared.program.{MethodInfo.MethodInfo, Row.Row}
 use Rattle.checked_program.specs.MarkedProgram.{MarkedProgram, IsMarked}
-use Rattle.machine_types.specs.{Bounds.{IsRooted, part_roots}, Elision.{may_try, enters_marked}, Events.{thread_started, element_made, moved}}
-use Rattle.machine_types.specs.{Frames.{Top, top_of, frames_of, went_on, pushed, has_room, entry_frame, monitor_of, handler_at}, Going.{with_phase, failed_turn, goes_on, goes_on_if}}
-use Rattle.machine_types.specs.{HeldMonitors.{held_at, without_held}, Monitors.{lets_go, lowest_of, HasNot, claim}}
-use Rattle.machine_types.specs.{Onward.{Running, Leaving, Uncaught, rooted, root_arguments, handed, unwound, Onward}, ReadyObjects.class_of, Shown.Show, Standing.{Whole, Thrown}}
-use Rattle.machine_types.specs.{Structure.{Stands, AttemptStandsIn, IsStructured, IsAs, IsLimitAt, IsPhaseInside, count_in}, Threads.{Frame, Attempt, Thread}}
-use Rattle.machine_types.specs.{Typed.{Classes, AfterHolds, PhaseHolds, ThreadHolds}, declared.{lock.{Held.Held, Kept.Kept}, phase.{After.After, Phase.Phase}}}
-use Rattle.laws_threads.specs.{InsideMoves.{BeginsAttempt, EntersInside}, StructureLaws.{StaysStructured, StructureIsKept, counted_by, turned_from}}
-use Rattle.laws_threads.proofs.{FrameCalls.roots_law, FramePlaces.tops_stand_law, FrameThrows.{caught_law, unwound_law}, GoingOn.{unwound_shows, pushed_frame, OnwardShows, none_goes_on, each_goes_on, onward_stands, going}}
+use Rattle.machine_types.specs.{Bounds.{IsRooted, part_roots}, Elision.{may_try, enters_marked}, Events.{thread_started, element_made, moved}, Going.{with_phase, failed_turn, goes_on, goes_on_if}}
+use Rattle.machine_types.specs.{Frames.{Top, top_of, frames_of, went_on, pushed, has_room, entry_frame, monitor_of, handler_at}, HeldMonitors.{held_at, without_held}, ReadyObjects.class_of}
+use Rattle.machine_types.specs.{Monitors.{lets_go, lowest_of, HasNot, claim}, Onward.{Running, Leaving, Uncaught, rooted, root_arguments, handed, unwound, Onward}, Shown.Show, declared.lock.Held.Held}
+use Rattle.machine_types.specs.{Standing.{Whole, Thrown}, Structure.{Stands, AttemptStandsIn, IsStructured, IsAs, IsLimitAt, IsPhaseInside, count_in}, Threads.{Frame, Attempt, Thread}}
+use Rattle.machine_types.specs.{Typed.{Classes, AfterHolds, PhaseHolds, ThreadHolds}, declared.{lock.Kept.Kept, phase.{After.After, Phase.Phase}}}
+use Rattle.laws_threads.{specs.{InsideMoves.{BeginsAttempt, EntersInside}, StructureLaws.{StaysStructured, StructureIsKept, counted_by, turned_from}}, proofs.{FrameCalls.roots_law, Tests.either_way}}
+use Rattle.laws_threads.proofs.{FramePlaces.tops_stand_law, FrameThrows.{caught_law, unwound_law}, GoingOn.{unwound_shows, pushed_frame, OnwardShows, none_goes_on, each_goes_on, onward_stands, going}}
 use Rattle.laws_threads.proofs.MonitorEntries.{from_take, from_flag, from_take_fat, takes_next, takes_fat_next, looks_again, flags, turned_back, turned_back_fat, looks_at_lock, taken, again, to_acquire, begun, deeper_inside, none_tried}
 use Rattle.laws_threads.proofs.{MoveProofs.{elements_law, pushed_law}, Releases.{AtExit, left_with, left_deeper, left_last, grows_first, left_elided, left_inside}, Roots.{IsSomeRoot, part_root}}
-use Rattle.laws_threads.proofs.Steps.{elements_inside}
+use Rattle.laws_threads.proofs.{Steps.elements_inside, Throws.throws_inside, Turns.{no_try, failing, no_attempt, outside}}
 use Rattle.laws_threads.proofs.ThreadMove.{if_either, Looks, Lacks, GoesBy, Checks, LeadsTo, TurnsTo, Takes, GivesUp, Move, becomes, mover, by_move, of_mover, not_held, tried_attempt, tried_monitor}
-use Rattle.laws_threads.proofs.{Throws.throws_inside, Turns.{no_try, failing, no_attempt, outside}}
 use Rattle.laws_threads.proofs.Waits.{to_own, not_grown, to_fat_in, fattened, to_wait_out, given_up, waits_on, to_retake, retakes_not, retaken, notified, to_notify_one, notified_one, notified_all}
 use Rattle.jvm_types.specs.declared.outcome.End.TheVariants as ends
 use Rattle.jvm_types.specs.declared.outcome.Thrown as outcomes

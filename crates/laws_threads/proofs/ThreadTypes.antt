@@ -2,11 +2,9 @@
 use Rattle.std.proofs.Common.{◌≡◌, ℕ, zero, suc, ◌+◌, ◌-◌, ◌<◌, Bool, List, [], ◌∷◌, length, Option, Some, None, sym, subst, nat_lt, drop, IfSome, if◌then◌else◌}
 use Rattle.jvm_types.specs.declared.program.Program.{Program}
 use Rattle.checked_program.specs.MarkedProgram.{MarkedProgram}
-use Rattle.machine_types.specs.{Elision.{put_back, fails}, Going.{with_phase, runs, failed_turn, root_over, goes_on, goes_on_if}, Lawful.NewFits}
-use Rattle.machine_types.specs.{Onward.{Onward, Running, RootReturned}, Threads.{Frame, Attempt, Thread}}
-use Rattle.machine_types.specs.{Typed.{Classes, FramesHold, AttemptHolds, ThreadHolds, PhaseHolds, IsObject}, declared.phase.Phase.Phase}
-use Rattle.laws_threads.proofs.Onwards.{frames_then, Keeps, AreInside, Onwards, IfOnwards}
-use Rattle.laws_threads.proofs.{Tests.either_way, ThreadMove.over_to}
+use Rattle.machine_types.specs.{Elision.{put_back, fails}, Going.{with_phase, runs, failed_turn, goes_on, goes_on_if}, Lawful.NewFits, Onward.{Onward, Running, RootReturned}}
+use Rattle.machine_types.specs.{Threads.{Frame, Attempt, Thread}, Typed.{Classes, FramesHold, AttemptHolds, ThreadHolds, PhaseHolds, IsObject}, declared.phase.Phase.Phase}
+use Rattle.laws_threads.proofs.{Onwards.{frames_then, Keeps, AreInside, Onwards, IfOnwards}, Tests.either_way, ThreadMove.over_to}
 use Rattle.jvm_types.specs.declared.outcome.End.TheVariants as ends
 use Rattle.machine_types.specs.declared.phase.Phase.TheVariants as phases
 

@@ -1,17 +1,13 @@
 -- An attempt stands as an exception goes to a handler, or leaves the top frame.
-use Rattle.std.proofs.lemmas.Bool.{cond_both}
-use Rattle.std.proofs.Common.{◌≡◌, ℕ, zero, suc, slice_get, Bool, true, false, List, [], ◌∷◌, Option, Some, None, refl, sym, ap, ◌∙◌, subst, arith, ◌==◌, if◌then◌else◌}
-use Rattle.std.{specs.List.list_any, proofs.lemmas.Bool.Decides.nat_tests}
+use Rattle.std.{specs.List.list_any, proofs.Common.{◌≡◌, ℕ, zero, suc, slice_get, Bool, true, false, List, [], ◌∷◌, Option, Some, None, refl, sym, ap, ◌∙◌, subst, arith, ◌==◌, if◌then◌else◌}}
+use Rattle.std.proofs.lemmas.Bool.{cond_both, Decides.nat_tests}
 use Rattle.lists.proofs.{ListLaws.same_some, TestLaws.{first_true, second_true}}
-use Rattle.jvm_types.specs.{CodeTable.can_throw, Members.is_synchronized, Verifying.{covering, is_return}, declared.{code.Insn.Insn, outcome.Thrown.Thrown}}
-use Rattle.jvm_types.specs.declared.program.Row.{Row}
-use Rattle.checked_program.specs.{MarkedProgram.{MarkedProgram, IsMarked}, TaggedCode.caught, Tagging.{catches_all, until_all, catchers, tags_at_handler}}
-use Rattle.checked_program.proofs.CheckedPlaces.{catchers_among}
+use Rattle.jvm_types.specs.{CodeTable.can_throw, Members.is_synchronized, Verifying.{covering, is_return}, declared.{code.Insn.Insn, outcome.Thrown.Thrown, program.Row.Row}}
+use Rattle.checked_program.{specs.{MarkedProgram.{MarkedProgram, IsMarked}, TaggedCode.caught, Tagging.{catches_all, until_all, catchers, tags_at_handler}}, proofs.CheckedPlaces.catchers_among}
 use Rattle.machine_types.specs.{Frames.{Top, handler_of, handler_at, monitor_of}, Onward.{Leaving, handed, unwound}, ReadyObjects.class_of, Structure.{Finishes, frames_inside}}
 use Rattle.machine_types.specs.{Threads.{Frame, Attempt}}
-use Rattle.laws_threads.{specs.InsideMoves.{GoesOnInside, OnwardStands, ThrowsInside}, proofs.{AttemptMoves.{not_alone, along, unwound_on}}}
-use Rattle.laws_threads.proofs.{FrameReturns.leaves_none, FrameThrows.{may_leave_by, none_catches}, Inside.{InAttempt, locking, runs_inside, stays}, SectionFrames.Runs, Standings.{top_here, top_at_standing, one_insn}}
-use Rattle.laws_threads.proofs.TypedMoves.{handler_found}
+use Rattle.laws_threads.{specs.InsideMoves.{GoesOnInside, OnwardStands, ThrowsInside}, proofs.{AttemptMoves.{not_alone, along, unwound_on}, FrameReturns.leaves_none, SectionFrames.Runs}}
+use Rattle.laws_threads.proofs.{FrameThrows.{may_leave_by, none_catches}, Inside.{InAttempt, locking, runs_inside, stays}, Standings.{top_here, top_at_standing, one_insn}, TypedMoves.handler_found}
 use Rattle.jvm_types.specs.declared.code.Op.TheVariants as ops
 use Rattle.machine_types.specs.declared.phase.After.TheVariants as afters
 use Rattle.machine_types.specs.declared.phase.Phase.TheVariants as phases

@@ -1,7 +1,6 @@
 -- The effect of the instruction at which typed frames stand is allowed, and what it names is there.
-use Rattle.std.proofs.lemmas.Bool.{cond_both}
 use Rattle.std.proofs.Common.{◌≡◌, ℕ, ◌<◌, ◌≤◌, ◌^◌, ◌⊎◌, inl, inr, Bool, true, false, List, [], ◌∷◌, ◌++◌, length, Some, refl, ap, sym, subst, ◌∙◌, arith, ◌==◌, slice_get, slice_index, if◌then◌else◌}
-use Rattle.std.proofs.lemmas.{Bool.Decides.nat_tests, Option.get_or_from_slice_get}
+use Rattle.std.proofs.lemmas.{Bool.{cond_both, Decides.nat_tests}, Option.get_or_from_slice_get}
 use Rattle.lists.proofs.{ListLaws.same_some, TestLaws.{first_true, second_true}}
 use Rattle.jvm_types.specs.{CodeTable.{arguments, is_init}, Members.{MethodSite, is_static}, Numbers.has_number, ProgramInvariant.{IsClassOf, site_in}}
 use Rattle.jvm_types.specs.{Verifying.{IsLaidOut, edges, frame_after, FrameFits}, declared.{class_numbers.TheConstants.{OBJECT_CLASS, PRINT_STREAM_CLASS}, code.{Insn.Insn, Op.Op}, op_row.Given.Given}}
@@ -11,8 +10,7 @@ use Rattle.laws_programs.{specs.{EntryLaws.receiver_count, TargetLaws.HasRow}, p
 use Rattle.checked_program.{specs.{CheckedLaws.receiver_want, MarkedProgram.{MarkedProgram, IsMarked, checked_part}, TaggedCode.row_of}, proofs.{CheckedPlaces.called_fit_all, FewFields.few_fields}}
 use Rattle.laws_sections.proofs.HiddenThis.{long_arguments}
 use Rattle.machine_types.specs.{Effects.effect, Frames.{Top, effect_at}, Lawful.within, ReadyObjects.out_object, Standing.Standing, Threads.Frame, Typed.{Classes, IsNullOr, FrameHolds}}
-use Rattle.machine_types.specs.{Words.variable_word, declared.effect.Effect.Effect}
-use Rattle.machine_types.specs.declared.effect.Effect.TheVariants.{Goes, Throws, Reads, Writes, Raises, Makes, Prints, Calls, Returns, Leaves, Stuck}
+use Rattle.machine_types.specs.{Words.variable_word, declared.effect.Effect.{Effect, TheVariants.{Goes, Throws, Reads, Writes, Raises, Makes, Prints, Calls, Returns, Leaves, Stuck}}}
 use Rattle.machine_types.specs.declared.effect.Variable.{Variable}
 use Rattle.laws_threads.specs.{Allowed.{IsOf, IsNamedField, WantHolds, TakenHold, OneOf, MadeAs, Allowed}, TopFrames.{GoesTo, IsReference, CallFits, MakesFit, IsAllowed, EffectsAreAllowed}}
 use Rattle.laws_threads.proofs.{Allowed.{MakesAt, below_args, effect_allowed}, Calls.{CallRow, call_row, takes_arguments, HasReceiver, call_receiver, receiver_first}}

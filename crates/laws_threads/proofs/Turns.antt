@@ -3,8 +3,7 @@ use Rattle.std.proofs.Common.{◌≡◌, ℕ, ◌+◌, ◌<◌, Bool, cond, List
 use Rattle.checked_program.specs.MarkedProgram.{MarkedProgram}
 use Rattle.machine_types.specs.{Elision.fails, Going.{with_phase, runs, failed_turn}, HeldMonitors.held_at, Structure.{CountsTurns, IsPhaseInside, Stands, AttemptStands, AttemptStandsIn}}
 use Rattle.machine_types.specs.{Threads.{Frame, Attempt, Thread}, declared.{lock.Held.Held, phase.Phase.Phase}}
-use Rattle.laws_threads.specs.StructureLaws.{StaysStructured, turned_from}
-use Rattle.laws_threads.proofs.Tests.{either_way}
+use Rattle.laws_threads.{specs.StructureLaws.{StaysStructured, turned_from}, proofs.Tests.either_way}
 use Rattle.jvm_types.specs.declared.outcome.End.TheVariants as ends
 use Rattle.machine_types.specs.declared.phase.Phase.TheVariants as phases
 

@@ -4,14 +4,13 @@ use Rattle.std.{specs.{List.{AllZip, AllByRecursion, find}, Option.{option_to_li
 use Rattle.jvm_types.specs.{ClassTree.is_subclass, CodeTable.{type_of, can_throw, result_of, value_of, stack_after, locals_after}, Types.{TypeFrame, is_below}}
 use Rattle.jvm_types.specs.Verifying.{edges, is_return, suits, some_taken, some_read, started, frame_after, frame_at_handler, caught_class, covers, covering}
 use Rattle.jvm_types.specs.declared.{class_numbers.TheConstants.THROWABLE_CLASS, code.Op.Op, op_row.{Given.{Given, TheVariants.Fresh}, OpRow.OpRow}, program.{Kind.Kind, MethodInfo.MethodInfo}}
-use Rattle.jvm_types.specs.declared.{program.Row.Row, typing.VType.{VType, TheVariants.{Ref, Top as Unknown}}}
 use Rattle.laws_programs.{specs.RuleLaws.{ReturnsWell, ReturnsTop}, proofs.LocalGoing.at_index}
 use Rattle.checked_program.specs.{LockTags.IsShapeBelow, MarkedProgram.{MarkedProgram, IsMarked}, Marks.called_method, TaggedCode.row_of, Tagging.{tags_after, tags_at_handler, catches_all, until_all}}
 use Rattle.checked_program.proofs.CheckedPlaces.{catchers_among}
 use Rattle.machine_types.specs.{Frames.{frame_on, given_back, handler_of}, Threads.Frame, Typed.{Classes, Holds, FrameHolds, WaitHolds}}
-use Rattle.laws_threads.{specs.Allowed.{OneOf, HasRowTypes}, proofs.{Callers.{handler_in, call_edge}, Calls.CallRow, Landing.{rules_at, tag_rules_at, land}}}
-use Rattle.laws_threads.proofs.{Standings.stands_too, Typing.{all_at, start_holds, started_frame, values_after}, Values.{ValuesHold, holds_below, rest_holds}}
-use Rattle.laws_threads.proofs.Tests.{either_way}
+use Rattle.laws_threads.{specs.Allowed.{OneOf, HasRowTypes}, proofs.{Callers.{handler_in, call_edge}, Calls.CallRow, Landing.{rules_at, tag_rules_at, land}, Standings.stands_too, Tests.either_way}}
+use Rattle.laws_threads.proofs.{Typing.{all_at, start_holds, started_frame, values_after}, Values.{ValuesHold, holds_below, rest_holds}}
+use Rattle.jvm_types.specs.declared.{program.Row.Row, typing.VType.{VType, TheVariants.{Ref, Top as Unknown}}}
 use Rattle.jvm_types.specs.Verifying as types
 use Rattle.jvm_types.specs.declared.code.Op.TheVariants as ops
 use Rattle.jvm_types.specs.declared.program.Kind.TheVariants as kinds

@@ -2,14 +2,12 @@
 use Rattle.std.{proofs.Common.{◌≡◌, ℕ, length, drop, inl, inr, Bool, true, false, not, List, [], ◌∷◌, Option, Some, None, refl, sym, subst, if◌then◌else◌}, specs.List.{AllZip, AllByRecursion}}
 use Rattle.std.proofs.lemmas.Bool.{or_parts}
 use Rattle.lists.proofs.TestLaws.{is_true}
-use Rattle.jvm_types.specs.Types.{TypeFrame, is_uninitialised, same_type}
+use Rattle.jvm_types.specs.{Types.{TypeFrame, is_uninitialised, same_type}, declared.{code.Insn.Insn, op_row.{OpRow.OpRow, Want.{Want, TheVariants.ToStart}}, program.MethodInfo.MethodInfo}}
 use Rattle.jvm_types.specs.Verifying.{suits, some_taken, some_read, new_class, is_class_of, takes_too_many, mistypes, started, initialised, after_start, frame_after, FrameFits}
-use Rattle.jvm_types.specs.declared.{code.Insn.Insn, op_row.{OpRow.OpRow, Want.{Want, TheVariants.ToStart}}, program.MethodInfo.MethodInfo}
 use Rattle.jvm_types.{specs.declared.typing.VType.{VType, TheVariants.{Ref, This, New}}, proofs.TypeOrder.subclass_self}
 use Rattle.laws_programs.proofs.MonoTypes.{same_object}
-use Rattle.machine_types.specs.{Frames.frame_on, Threads.Frame, Typed.{Classes, IsMadeAt, Holds}}
-use Rattle.laws_threads.{specs.Allowed.{TakenHold, HasRowTypes, OneOf}, proofs.Values.{same_class, ValuesHold, taken_hold, rest_holds, stack_holds, locals_hold}}
-use Rattle.laws_threads.proofs.Tests.{either_way}
+use Rattle.machine_types.specs.{Frames.frame_on, Threads.Frame, Typed.{Classes, Holds}}
+use Rattle.laws_threads.{specs.Allowed.{TakenHold, HasRowTypes, OneOf}, proofs.{Tests.either_way, Values.{same_class, ValuesHold, taken_hold, rest_holds, stack_holds, locals_hold}}}
 
 -- what holds of each edge
 pub all_at : (P : ℕ → Type 0) (tos : List ℕ) (to : ℕ) → AllByRecursion P tos → OneOf tos to → P to

@@ -2,13 +2,12 @@
 use Rattle.std.proofs.Common.{◌≡◌, ℕ, zero, suc, ◌⊎◌, inl, inr, Bool, true, false, not, ◌||◌, List, [], ◌∷◌, length, Option, Some, None, refl, ap, sym, subst, ◌∙◌, arith, nat_lt, ◌==◌, slice_set, slice_index_or, map, drop, ◌++◌}
 use Rattle.std.{specs.List.{AllZip, AllByRecursion}, proofs.lemmas.Bool.{or_parts, Decides.nat_tests}}
 use Rattle.lists.proofs.TestLaws.{is_true, both_are_true}
-use Rattle.jvm_types.specs.{ClassTree.is_subclass, CodeTable.{value_of, stack_after, locals_after}, Members.is_static, Types.{TypeFrame, is_below, all_pairs, frame_below}}
+use Rattle.jvm_types.specs.{ClassTree.is_subclass, CodeTable.{value_of, locals_after}, Members.is_static, Types.{TypeFrame, is_below, all_pairs, frame_below}}
 use Rattle.jvm_types.specs.{Verifying.{suits, some_taken, new_class, is_class_of}, declared.{class_numbers.TheConstants.OBJECT_CLASS, op_row.Given.{Given, TheVariants.{Fresh, Taken, Local}}}}
-use Rattle.jvm_types.specs.declared.{op_row.{OpRow.OpRow, Want.{Want, TheVariants.{AnyValue, AnInt, AnObject, AnyReference, AHolder, ToStart}}}, program.MethodInfo.MethodInfo, typing.VType.VType}
+use Rattle.jvm_types.specs.declared.{op_row.{Want.{Want, TheVariants.{AnyValue, AnInt, AnObject, AnyReference, AHolder, ToStart}}}, program.MethodInfo.MethodInfo, typing.VType.VType}
 use Rattle.jvm_types.{specs.declared.typing.VType.TheVariants.{Int, Null, Ref, This, New, Top}, proofs.{FrameOrder.{stack_below, locals_below}, TypeOrder.{subclass_self, subclass_trans}}}
 use Rattle.machine_types.specs.{Threads.Frame, Typed.{Classes, IsNullOr, Holds}}
-use Rattle.laws_threads.specs.Allowed.{WantHolds, TakenHold, GivenHolds, WriteHolds, HasRowTypes}
-use Rattle.laws_threads.proofs.Tests.{either_way}
+use Rattle.laws_threads.{specs.Allowed.{WantHolds, TakenHold, GivenHolds, WriteHolds}, proofs.Tests.either_way}
 
 -- the values of a frame have the types of a typing
 pub record ValuesHold (m : MethodInfo) (is : Classes) (g : TypeFrame) (f : Frame) : Type 0 where

@@ -3,9 +3,8 @@ use Rattle.std.proofs.{Common.{◌≡◌, ℕ, Option, Some, None, refl, sym, su
 use Rattle.checked_program.specs.MarkedProgram.{MarkedProgram}
 use Rattle.machine_types.specs.{Going.{with_phase, runs, failed_turn}, HeldMonitors.{held_at, with_held, without_held}, Monitors.{grows_not, fattens, goes_to_wait, retakes}}
 use Rattle.machine_types.specs.{Structure.{IsFlat, IsFat, Stands}, Threads.Thread, declared.{lock.Held.Held, phase.Toward.Toward}}
-use Rattle.laws_threads.specs.StructureLaws.{StaysStructured}
+use Rattle.laws_threads.{specs.StructureLaws.StaysStructured, proofs.Turns.{TurnsIn, running, turning, no_attempt}}
 use Rattle.laws_threads.proofs.HeldLists.{depth_some, depth_none, depth_put, depth_without, held_monitor, held_there, held_positive, none_held, once_put, once_without, refitted_depth}
-use Rattle.laws_threads.proofs.Turns.{TurnsIn, running, turning, no_attempt}
 use Rattle.machine_types.specs.declared.lock.Kept.TheVariants as keeps
 use Rattle.machine_types.specs.declared.phase.Phase.TheVariants as phases
 use Rattle.machine_types.specs.declared.phase.Toward.TheVariants as towards
