@@ -7,7 +7,7 @@ use Rattle.checked_program.specs.{LockTags.TagShape, MarkedProgram.{MarkedProgra
 use Rattle.checked_program.specs.{TaggedCode.IsAt, declared.section.Spot.TheVariants.Block}
 use Rattle.laws_sections.proofs.SectionMoves.{own_deep}
 use Rattle.machine_types.specs.{Frames.{monitor_by, monitor_of}, Sections.entered_at, Shown.{Shows, Show}, Standing.{Standing, Operands, Whole, tags_of}, Threads.{Frame, Attempt}}
-use Rattle.machine_types.specs.{Structure.{IsPart, IsBehindEntry, AttemptStands, section_of, count_in, once_at, held_depth, tried_depth}, declared.{lock.Held.Held, phase.Phase.Phase}}
+use Rattle.machine_types.specs.{Structure.{IsPart, IsBehindEntry, AttemptStands, section_of, count_in, held_depth, tried_depth}, declared.{lock.Held.Held, phase.Phase.Phase}}
 use Rattle.laws_threads.proofs.{FramesInside.put_back_alone, SectionEntries.{Entered, entered_before, just_before, next_later, none_held, Took, took}, SectionFrames.{part_of, Runs}}
 use Rattle.laws_threads.proofs.{ShownLengths.{own_count, shown_length, none_inner}, Standings.{laid, one_method, one_tags}}
 
@@ -114,11 +114,8 @@ module _ (c : MarkedProgram) (marked : IsMarked c) (a : Attempt) where
     pub none_inside : (o : Operands) (phase : Phase) (below : List Frame) (held : List Held) (shown : List ℕ) → (k : AttemptStands c phase (f ∷ below) held a) → a.base ≡ length below → Show c o (f ∷ below) shown
         → ((m : ℕ) → count_in m shown ≡ held_depth m held + tried_depth m (Some a)) → length r.stands.tags.held ≡ length entry.stands.tags.held → a.inner ≡ 0
     none_inside o phase below held shown k base show counts many =
-        none_inner c marked o a f below held shown k.goes_back.shown show (subst (λ fs. Show c Whole fs k.goes_back.shown) (put_back_alone a f below base) k.goes_back.show) counts counted alike
+        none_inner c marked o a f below held shown k.goes_back.shown show (subst (λ fs. Show c Whole fs k.goes_back.shown) (put_back_alone a f below base) k.goes_back.show) counts (λ m. let d = k.goes_back.depths m in omega (arith, d)) alike
       where
-        counted : (m : ℕ) → count_in m k.goes_back.shown ≡ held_depth m held + once_at a.monitor m
-        counted m = let d = k.goes_back.depths m in omega (arith, d)
-
         alike : (own other : List ℕ) → Shows c o f own → Shows c Whole a.entry other → length own ≡ length other
         alike own other s t =
             let first : length s.stands.tags.held ≡ length r.stands.tags.held = ap (λ (x : TagShape). length x.held) (one_tags c marked f s.stands r.stands) in

@@ -85,10 +85,7 @@ innermost : (c : MarkedProgram) (marked : IsMarked c) (f : Frame) (k : Standing 
 innermost c marked f k own rest outer m held s h e =
     let tags : s.stands.tags.held ≡ This ∷ held = ap (λ (x : TagShape). x.held) (one_tags c marked f s.stands k) ∙ h in
     let shown : own ≡ f.receiver ∷ (map (tag_value s.choice f.receiver) held ++ own_entry c.program s.stands.method f) = s.shown_are ∙ ap (λ ts. map (tag_value s.choice f.receiver) ts ++ own_entry c.program s.stands.method f) tags in
-    first (ap (λ xs. xs ++ rest) (sym shown) ∙ e)
-  where
-    first : {xs : List ℕ} → f.receiver ∷ xs ≡ m ∷ outer → f.receiver ≡ m
-    first q = cc
+    let first : f.receiver ∷ ((map (tag_value s.choice f.receiver) held ++ own_entry c.program s.stands.method f) ++ rest) ≡ m ∷ outer = ap (λ xs. xs ++ rest) (sym shown) ∙ e in cc
 
 -- ---- the law
 

@@ -1,7 +1,7 @@
 -- An instruction keeps a thread within its bounds, and so does a check that fails.
 use Rattle.std.proofs.Common.{◌≡◌, ℕ, ◌+◌, ◌<◌, ◌≤◌, true, List, [], ◌∷◌, ◌++◌, length, Option, Some, None, refl, sym, subst, ap, ◌∙◌, arith, length-append, option_map, slice_get, IfSome, IsSome}
 use Rattle.std.{specs.List.AllByRecursion, proofs.lemmas.Bool.Decides.nat_tests}
-use Rattle.jvm_types.specs.declared.{outcome.{Print.Print, Thrown.Thrown}, program.{MethodInfo.MethodInfo, Program.Program}}
+use Rattle.jvm_types.specs.declared.{outcome.{Print.Print}, program.{MethodInfo.MethodInfo, Program.Program}}
 use Rattle.machine_types.specs.{Bounds.{KeptFits, EntryFits, IsInner, IsBounded}, Elision.{put_back, fails}, Frames.{Top, frames_of}, Going.{with_phase, goes_on}, HeldMonitors.{held_at}}
 use Rattle.machine_types.specs.{Instructions.{has_print_left, begun, printed}, Ints.int_of, Onward.{Onward, Running, Throwing, Entering, Leaving, RootReturned, Uncaught, called, done}}
 use Rattle.machine_types.specs.{ReadyObjects.thrown_of, Threads.{Frame, Attempt, Thread}, Words.header_class, declared.effect.Effect.Effect}
@@ -95,11 +95,7 @@ module _ (p : Program) where
 
   -- so that it goes on
   pub does_all : (at : Top) (e : Effect) (got : ℕ) → HasDone e got → IsByDone e → done p at e got ≡ None → ⊥
-  does_all at (Raises x) got h is none = no_thrown (thrown_of (header_class got)) h none
-    where
-      no_thrown : (o : Option Thrown) → IsSome o → option_map (λ class. Throwing x class (frames_of at)) o ≡ None → ⊥
-      no_thrown None h e = cc
-      no_thrown (Some class) h e = cc
+  does_all at (Raises x) got h is none = (elim (thrown_of (header_class got)) as (λ o. IsSome o → option_map (λ class. Throwing x class (frames_of at)) o ≡ None → ⊥) [ None ↦ λ h e. cc | Some class ↦ λ h e. cc ]) h none
   does_all at (Calls number) got h is none =
       let bad : Some (called p at number h.0) ≡ None = ap (option_map (called p at number)) (sym h.1) ∙ none in cc
   does_all at e got h is none = absurd (first_of (assumption, cc))

@@ -43,15 +43,10 @@ call_row p site pc number op r called e h = absurd (assumption)
 
 -- as many values as the method has arguments, with its receiver
 pub takes_arguments : (called : MethodInfo) (r : OpRow) → CallRow called r → length r.takes ≡ receiver_count called + length called.args
-takes_arguments called r call = ap (λ (x : OpRow). length x.takes) call.is ∙ by_kind call.by
-  where
-    counted : (b : Bool) (wants : List Want) → is_static called.flags ≡ b → length wants ≡ (if b then 0 else 1) + length called.args → length wants ≡ receiver_count called + length called.args
-    counted b wants s e = rw s e
-
-    by_kind : ((is_static called.flags ≡ false) × (call.takes ≡ arguments called ++ receiver_want (is_init called) called.class ∷ [])) ⊎ ((is_static called.flags ≡ true) × (call.takes ≡ arguments called))
-        → length call.takes ≡ receiver_count called + length called.args
-    by_kind (inl k) = counted false call.takes k.0 (ap length k.1 ∙ length-append (arguments called) (receiver_want (is_init called) called.class ∷ []) ∙ omega (arith, long_arguments called))
-    by_kind (inr k) = counted true call.takes k.0 (ap length k.1 ∙ omega (arith, long_arguments called))
+takes_arguments called r call = ap (λ (x : OpRow). length x.takes) call.is ∙ (elim call.by as (λ _. length call.takes ≡ receiver_count called + length called.args) [
+  | inl k ↦ let one : receiver_count called ≡ 1 = ap (λ b. if b then 0 else 1) k.0 in omega (arith, one, ap length k.1, length-append (arguments called) (receiver_want (is_init called) called.class ∷ []), long_arguments called)
+  | inr k ↦ let none : receiver_count called ≡ 0 = ap (λ b. if b then 0 else 1) k.0 in omega (arith, none, ap length k.1, long_arguments called)
+])
 
 -- ---- its receiver
 

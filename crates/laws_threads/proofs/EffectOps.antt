@@ -165,8 +165,4 @@ OnlyLeaves Stuck = Unit {0}
 OnlyLeaves e = ⊥
 
 pub exit_leaves : (p : Program) (next : ℕ) (target : Target) (op : Op) (l s : List ℕ) → op ≡ ops.Monitorexit → OnlyLeaves (effect p next target op l s)
-exit_leaves p next target op l s e = subst (λ o. OnlyLeaves (effect p next target o l s)) (sym e) (at s)
-  where
-    at : (s : List ℕ) → OnlyLeaves (effect p next target ops.Monitorexit l s)
-    at [] = tt
-    at (a ∷ s) = tt
+exit_leaves p next target op l s e = subst (λ o. OnlyLeaves (effect p next target o l s)) (sym e) (elim s as (λ s. OnlyLeaves (effect p next target ops.Monitorexit l s)) [ [] ↦ tt | a ∷ s ↦ tt ])

@@ -7,11 +7,11 @@ use Rattle.machine_types.specs.{Events.{thread_started, element_made, moved}, Fr
 use Rattle.machine_types.specs.{HeldMonitors.{held_at, with_held, without_held, deeper, shallower}, Instructions.printed, Lawful.NewFits, Monitors.grown}
 use Rattle.machine_types.specs.{Onward.{Running, after, dispatched, Onward, handed}, ReadyObjects.class_of, Structure.{TopIs, is_element_op, AfterShows}, Threads.{Frame, Attempt, Thread}}
 use Rattle.machine_types.specs.{Typed.{Classes, FramesHold, FramesThrown, IsException, AfterHolds, TowardHolds, AttemptHolds, PhaseHolds, IsObject, with_object}, Words.header_class}
-use Rattle.machine_types.specs.declared.{lock.{Held.Held, Kept.Kept}, phase.{After.After, Phase.Phase, Toward.Toward}}
-use Rattle.laws_threads.{specs.Allowed.{OneOf, HasRowTypes}, proofs.{Doing.runs_on, KeptRun.{does_at, refuses_at, prints_at, waits_at, notifies_at, finds_element, makes_at}, Landing.stand_top}}
+use Rattle.machine_types.specs.declared.{effect.Effect.TheVariants.{Prints, Waits}, lock.{Held.Held, Kept.Kept}, phase.{After.After, Phase.Phase, Toward.Toward}}
+use Rattle.laws_threads.{specs.Allowed.{OneOf, HasRowTypes}, proofs.{Doing.runs_on, KeptRun.{does_at, refuses_at, goes_at, notifies_at, finds_element, makes_at}, Landing.stand_top}}
 use Rattle.laws_threads.proofs.{Lifts.frames_up, Onwards.{Keeps, keeps_all, keeps_top, HasObjects, FoundHolds, AreInside, Onwards, IfOnwards, same_op, dispatches, goes_after_it}}
 use Rattle.laws_threads.proofs.ThreadMove.{Looks, GoesBy, LeadsTo, TurnsTo, Asks, WaitsFrom, Move, becomes, begun_attempt, mover, by_move, of_mover, takes_in, gives_up_in, tried_attempt}
-use Rattle.laws_threads.proofs.ThreadTypes.{IsBasedIn, EntryInside, Rests, TypedBy, runs_typed, phase_typed, turn_typed, goes_typed, goes_if_typed, fails_typed, carries}
+use Rattle.laws_threads.proofs.ThreadTypes.{IsBasedIn, EntryInside, Rests, TypedBy, runs_typed, turn_typed, goes_typed, goes_if_typed, fails_typed, carries}
 use Rattle.jvm_types.specs.declared.code.Op.TheVariants as ops
 use Rattle.machine_types.specs.declared.lock.Kept.TheVariants as keeps
 use Rattle.machine_types.specs.declared.phase.Phase.TheVariants as phases
@@ -173,7 +173,8 @@ module _ (c : MarkedProgram) (marked : IsMarked c) (is : Classes) (has : HasObje
     move_typed was (moves.stays k) t start new = t.stays
     move_typed was (moves.goes o k) t start new = goes_typed c is s o (goes_holds s got was o k t) t.rests t.based new
     move_typed was (moves.fails_in x e d k) t start new = fails_typed c is s x e t.rests
-    move_typed was (moves.leads now k) t start new = let h = leads_holds s got was now k t.holds in phase_typed c is s now h.0 h.1 t.rests
+    move_typed was (moves.leads now k) t start new = let h = leads_holds s got was now k t.holds in
+        record { values = record { phase = h.0; attempt = t.rests.attempt }; new = h.1; receivers = t.rests.inside; entry = t.rests.entry }
     move_typed was (moves.turns now k) t start new = let h = turns_holds s got was now k t.holds in turn_typed c is s now h.0.0 h.0.1 h.1 t.rests
     move_typed _ (moves.makes at word size found e fits) t start new =
         let k = makes_at c marked is has got word size s.frames at t.holds found e in
@@ -184,8 +185,8 @@ module _ (c : MarkedProgram) (marked : IsMarked c) (is : Classes) (has : HasObje
           entry = t.rests.entry;
         }
     move_typed _ (moves.prints at n found e y) t start new =
-        goes_typed c is (printed s got n) (Running (went_on c.program at 0)) (prints_at c marked is has n s.frames at t.holds found e) (record { attempt = t.rests.attempt; inside = t.rests.inside; entry = t.rests.entry }) t.based new
-    move_typed _ (moves.asks_to_wait at m h now found e l k) t start new = let on = waits_at c marked is has m s.frames at t.holds found e in
+        goes_typed c is (printed s got n) (Running (went_on c.program at 0)) (goes_at c marked is has (Prints n) (λ f h a. (a.0, a.2)) s.frames at t.holds found e) (record { attempt = t.rests.attempt; inside = t.rests.inside; entry = t.rests.entry }) t.based new
+    move_typed _ (moves.asks_to_wait at m h now found e l k) t start new = let on = goes_at c marked is has (Waits m) (λ f h a. (a.0, a.2)) s.frames at t.holds found e in
         steps_typed s got phases.Run t (went_on c.program at 0) now 0 on (waits_holds s got (went_on c.program at 0) on.holds m h.kept now k) new
     move_typed _ (moves.asks at m h now found y l k) t start new = let on = notifies_at c marked is has m s.frames at t.holds found y in
         steps_typed s got phases.Run t (went_on c.program at 0) now s.turns on (asks_holds s got (went_on c.program at 0) on.holds m h.kept now k) new

@@ -203,7 +203,5 @@ module _ (c : MarkedProgram) (s : Thread) (got : ℕ) (h : IsRooted c.program s)
   moved_framed was k f = record { roots = h.roots; frames = runs_framed was tt f }
 
 pub roots_kept : RootsAreKept
-roots_kept c s got h = by_move (IsRooted c.program) c s s.phase got (λ k. moved_framed c _ got (counted h) s.phase k (of_mover (λ y. FramesFit s.phase y.frames y.roots) c.program s.phase s h.frames h.frames))
-  where
-    counted : IsRooted c.program s → IsRooted c.program (mover c.program s.phase s)
-    counted h = of_mover (IsRooted c.program) c.program s.phase s h (record { roots = h.roots; frames = h.frames })
+roots_kept c s got h = by_move (IsRooted c.program) c s s.phase got
+    (λ k. moved_framed c _ got (of_mover (IsRooted c.program) c.program s.phase s h (record { roots = h.roots; frames = h.frames })) s.phase k (of_mover (λ y. FramesFit s.phase y.frames y.roots) c.program s.phase s h.frames h.frames))

@@ -5,9 +5,8 @@ use Rattle.lists.proofs.ListLaws.{same_some}
 use Rattle.jvm_types.specs.{CodeTable.{value_of, locals_after}, ProgramInvariant.IsProgram, Verifying.edges, declared.{op_row.{Given.{Given, TheVariants.Fresh}, OpRow.OpRow}, outcome.Thrown.Thrown}}
 use Rattle.jvm_types.{specs.declared.{program.{MethodInfo.MethodInfo, Program.Program}, typing.VType.{VType, TheVariants.{Ref, New}}}, proofs.TypeOrder.subclass_self}
 use Rattle.checked_program.specs.{MarkedProgram.{MarkedProgram, IsMarked}, TaggedCode.row_of}
-use Rattle.machine_types.specs.{Frames.{effect_at, went_on, making, pushed, Top, top_of}, Ints.low, Onward.{Onward, Running, threw, done}, Threads.Frame}
-use Rattle.machine_types.specs.{Typed.{Classes, Holds, FrameHolds, HoldBelow, FramesHold, ElementStands, with_object}, Words.{header_class, value_word}, declared.effect.Effect.Effect}
-use Rattle.machine_types.specs.declared.effect.Effect.TheVariants.{Indexes, Makes, Prints, Waits, Notifies, NotifiesAll}
+use Rattle.machine_types.specs.{Frames.{effect_at, went_on, making, pushed, Top, top_of}, Ints.low, Onward.{Onward, Running, threw, done}, Threads.Frame, Typed.{Classes, Holds, FrameHolds, HoldBelow}}
+use Rattle.machine_types.specs.{Typed.{FramesHold, ElementStands, with_object}, Words.{header_class, value_word}, declared.effect.Effect.{Effect, TheVariants.{Indexes, Makes, Notifies, NotifiesAll}}}
 use Rattle.laws_threads.{specs.Allowed.{OneOf, HasRowTypes, GivenHolds, WriteHolds, MadeAs, Allowed, IsByMachine}, proofs.{Doing.{runs_on, throws_it, does_it}, Landing.stand_top}}
 use Rattle.laws_threads.proofs.{Lifts.{frame_up, below_up}, Onwards.{Keeps, keeps_top, HasObjects, FoundHolds, AreInside, Onwards, IfOnwards}, Standings.top_here}
 use Rattle.laws_threads.proofs.{ThreadMove.{IsNotify, of_one, of_all, Refuses, past_end}, TopEffects.{made_size, allowed_here}, TypedMoves.goes}
@@ -51,16 +50,10 @@ module _ (c : MarkedProgram) (marked : IsMarked c) (is : Classes) (has : HasObje
   refuses_at class got fs at h found k = let own = refused class got at k in at_top (λ fs at. Onwards c is fs (threw class at)) (λ f fs h b. throws_it c marked is has f fs h b class own) fs at h found
 
   -- with nothing made
-  goes_at : (e : Effect) → ((f : Frame) (h : FrameHolds c is 0 f) → AllowedIn f h e → OneOf (edges h.stands.insn) h.stands.insn.next × HasRowTypes h.stands.method is (row_of c.program h.stands.method h.stands.insn h.stands.target) 0)
+  pub goes_at : (e : Effect) → ((f : Frame) (h : FrameHolds c is 0 f) → AllowedIn f h e → OneOf (edges h.stands.insn) h.stands.insn.next × HasRowTypes h.stands.method is (row_of c.program h.stands.method h.stands.insn h.stands.target) 0)
       → (fs : List Frame) (at : Top) → FramesHold c is fs → top_of c.program fs ≡ Some at → effect_at c.program at ≡ e → Onwards c is fs (Running (went_on c.program at 0))
   goes_at e on = at_top (λ fs at. effect_at c.program at ≡ e → Onwards c is fs (Running (went_on c.program at 0)))
       (λ f fs h b same. let k = on f h (allowed_in f fs h e same) in runs_on c marked is has f fs h b h.stands.insn.next 0 k.0 k.1)
-
-  pub prints_at : (n : ℕ) (fs : List Frame) (at : Top) → FramesHold c is fs → top_of c.program fs ≡ Some at → effect_at c.program at ≡ Prints n → Onwards c is fs (Running (went_on c.program at 0))
-  prints_at n = goes_at (Prints n) (λ f h a. (a.0, a.2))
-
-  pub waits_at : (m : ℕ) (fs : List Frame) (at : Top) → FramesHold c is fs → top_of c.program fs ≡ Some at → effect_at c.program at ≡ Waits m → Onwards c is fs (Running (went_on c.program at 0))
-  waits_at m = goes_at (Waits m) (λ f h a. (a.0, a.2))
 
   pub notifies_at : (m : ℕ) (fs : List Frame) (at : Top) → FramesHold c is fs → top_of c.program fs ≡ Some at → IsNotify c.program at m → Onwards c is fs (Running (went_on c.program at 0))
   notifies_at m fs at h found (of_one e) = goes_at (Notifies m) (λ f h a. (a.0, a.2)) fs at h found e

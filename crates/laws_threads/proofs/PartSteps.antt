@@ -60,15 +60,12 @@ worker_fits (suc zero) phase workers i x now e k fits = fits
 worker_fits (suc (suc part)) phase workers i x now e k fits = tt
 
 module _ (c : MarkedProgram) (x : Thread) (got : ℕ) where
-  stays_over : x.phase ≡ phases.Ended ends.Returned → (moved c x x.phase got).phase ≡ phases.Ended ends.Returned
-  stays_over e = ap (λ (phase : Phase). (moved c x phase got).phase) e ∙ e
-
   moved_fits : (threads : List Thread) (t : ℕ) → slice_get threads t ≡ Some x → (moved c x x.phase got).part ≡ x.part → PartsFit threads → PartsFit (slice_set threads t (moved c x x.phase got))
   moved_fits [] t e part fits = tt
   moved_fits (y ∷ workers) zero e part fits =
       let same : y ≡ x = cc in
       let here : PartFits x.part x.phase workers = subst (λ (z : Thread). PartFits z.part z.phase workers) same fits in
-      subst (λ (n : ℕ). PartFits n (moved c x x.phase got).phase workers) (sym part) (first_fits x.part x.phase (moved c x x.phase got).phase workers stays_over here)
+      subst (λ (n : ℕ). PartFits n (moved c x x.phase got).phase workers) (sym part) (first_fits x.part x.phase (moved c x x.phase got).phase workers (λ e. ap (λ (phase : Phase). (moved c x phase got).phase) e ∙ e) here)
   moved_fits (y ∷ workers) (suc t) e part fits = worker_fits y.part y.phase workers t x (moved c x x.phase got) e (λ e. ap (λ (phase : Phase). (moved c x phase got).phase) e ∙ e) fits
 
 pub event_fits : EventsFitParts

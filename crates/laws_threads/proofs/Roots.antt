@@ -1,8 +1,8 @@
 -- The frame of a root is typed: it is a static method that takes nothing or the number of the thread.
 use Rattle.std.{specs.List.{AllZip, AllByRecursion}, proofs.lemmas.{Bool.{cond_both, Decides.nat_tests}, Slice.Eq.bytes_eq-Decides}}
-use Rattle.std.proofs.Common.{◌≡◌, ℕ, zero, suc, ◌+◌, ◌<◌, ◌^◌, ◌⊎◌, inl, inr, Bool, true, false, ◌&&◌, ◌||◌, List, [], ◌∷◌, ◌++◌, length, Option, Some, None, refl, ap, sym, subst, ◌∙◌, arith, ◌==◌, nat_lt, codes, bytes_eq, slice_get, map, option_map, if◌then◌else◌, IsTrue}
+use Rattle.std.proofs.Common.{◌≡◌, ℕ, zero, suc, ◌+◌, ◌<◌, ◌^◌, ◌⊎◌, inl, inr, Bool, true, ◌&&◌, ◌||◌, List, [], ◌∷◌, ◌++◌, length, Option, Some, None, refl, ap, sym, subst, ◌∙◌, arith, ◌==◌, nat_lt, codes, bytes_eq, slice_get, map, option_map, if◌then◌else◌, IsTrue}
 use Rattle.lists.proofs.{ListLaws.same_some, TestLaws.{both_true, both_are_true, second_true}}
-use Rattle.jvm_types.specs.{ClassNames.file_class, CodeTable.type_of, LinkFaults.{is_run, is_entry}, Members.{is_static, is_class_init_name}, Numbers.has_number, ProgramInvariant.IsProgram}
+use Rattle.jvm_types.specs.{ClassNames.file_class, CodeTable.type_of, LinkFaults.{is_run}, Members.{is_static, is_class_init_name}, Numbers.has_number, ProgramInvariant.IsProgram}
 use Rattle.jvm_types.specs.declared.{outcome.Thrown.TheVariants.StackOverflowError, program.{Kind.Kind, MethodInfo.MethodInfo, Program.Program}}
 use Rattle.laws_programs.{specs.RootLaws.IsRoot, proofs.RootMethods.{class_inits, entries, run_root}}
 use Rattle.checked_program.specs.MarkedProgram.{MarkedProgram, IsMarked}
@@ -23,18 +23,13 @@ pub record Numbered (test : MethodInfo → Bool) (ms : List MethodInfo) (n k : �
 
 pub numbered : (test : MethodInfo → Bool) (ms : List MethodInfo) (n k : ℕ) → has_number (numbers_of test n ms) k ≡ true → Numbered test ms n k
 numbered test [] n k e = absurd (cc)
-numbered test (m ∷ ms) n k e = by_test (test m) refl e (numbered test ms (suc n) k)
+numbered test (m ∷ ms) n k e = either_way (λ (b : Bool). test m ≡ b → has_number (if b then n ∷ numbers_of test (suc n) ms else numbers_of test (suc n) ms) k ≡ true → Numbered test (m ∷ ms) n k) (test m)
+    (λ t e. either_way (λ (b : Bool). (n == k) ≡ b → (b || has_number (numbers_of test (suc n) ms) k) ≡ true → Numbered test (m ∷ ms) n k) (n == k)
+    (λ h e. record { at = 0; method = m; number = grind (arith, nat_tests, h); there = refl; passes = t }) (λ h e. later (numbered test ms (suc n) k e)) refl e)
+    (λ t e. later (numbered test ms (suc n) k e)) refl e
   where
     later : Numbered test ms (suc n) k → Numbered test (m ∷ ms) n k
     later x = record { at = suc x.at; method = x.method; number = omega (arith, x.number); there = x.there; passes = x.passes }
-
-    by_here : (b : Bool) → (n == k) ≡ b → test m ≡ true → (b || has_number (numbers_of test (suc n) ms) k) ≡ true → (has_number (numbers_of test (suc n) ms) k ≡ true → Numbered test ms (suc n) k) → Numbered test (m ∷ ms) n k
-    by_here true h t e more = record { at = 0; method = m; number = grind (arith, nat_tests, h); there = refl; passes = t }
-    by_here false h t e more = later (more e)
-
-    by_test : (b : Bool) → test m ≡ b → has_number (if b then n ∷ numbers_of test (suc n) ms else numbers_of test (suc n) ms) k ≡ true → (has_number (numbers_of test (suc n) ms) k ≡ true → Numbered test ms (suc n) k) → Numbered test (m ∷ ms) n k
-    by_test true t e more = by_here (n == k) refl t e more
-    by_test false t e more = later (more e)
 
 -- a number of one list or the other
 pub numbers_in : (xs ys : List ℕ) (k : ℕ) {P : Type 0} → has_number (xs ++ ys) k ≡ true → (has_number xs k ≡ true → P) → (has_number ys k ≡ true → P) → P
@@ -57,12 +52,9 @@ module _ (p : Program) (is : IsProgram p) where
       let names = both_are_true (m.class == file_class 0) (bytes_eq m.name name) parts.0 in
       let class : m.class ≡ file_class 0 = grind (arith, nat_tests, names.0) in
       let name_is = same names.1 in
-      by_run (is_run m.name m.descriptor) refl class
-      (second_true (is_run m.name m.descriptor) _ (both_true (bytes_eq m.descriptor (codes "()V")) (bytes_eq m.name (codes "init") || bytes_eq m.name (codes "done")) parts.1 (subst (λ (n : List ℕ). (bytes_eq n (codes "init") || bytes_eq n (codes "done")) ≡ true) (sym name_is) one)))
-    where
-      by_run : (b : Bool) → is_run m.name m.descriptor ≡ b → m.class ≡ file_class 0 → is_entry m.name m.descriptor ≡ true → IsSomeRoot m
-      by_run true r class entry = inr (run_root p at m is e class r)
-      by_run false r class entry = inl (entries p at m is e class entry r)
+      let entry = second_true (is_run m.name m.descriptor) _ (both_true (bytes_eq m.descriptor (codes "()V")) (bytes_eq m.name (codes "init") || bytes_eq m.name (codes "done")) parts.1
+      (subst (λ (n : List ℕ). (bytes_eq n (codes "init") || bytes_eq n (codes "done")) ≡ true) (sym name_is) one)) in
+      either_way (λ (b : Bool). is_run m.name m.descriptor ≡ b → IsSomeRoot m) (is_run m.name m.descriptor) (λ r. inr (run_root p at m is e class r)) (λ r. inl (entries p at m is e class entry r)) refl
 
   run_root_of : (at : ℕ) (m : MethodInfo) → slice_get p.methods at ≡ Some m → is_entry_named (codes "run") (codes "(I)V") m ≡ true → IsSomeRoot m
   run_root_of at m e h =

@@ -41,9 +41,6 @@ module _ (c : MarkedProgram) (is : Classes) where
       (record { values = record { phase = h; attempt = r.attempt }; new = tt; receivers = r.inside; entry = r.entry })
 
   -- to a phase of a monitor
-  pub phase_typed : (s : Thread) (phase : Phase) → PhaseHolds c is phase s.frames → NewFits phase c.program.heap → Rests c is s → TypedBy c is (with_phase s phase)
-  phase_typed s phase h n r = record { values = record { phase = h; attempt = r.attempt }; new = n; receivers = r.inside; entry = r.entry }
-
   pub turn_typed : (s : Thread) (phase : Phase) → PhaseHolds c is phase s.frames → NewFits phase c.program.heap → FramesHold c is s.frames → Rests c is s → TypedBy c is (failed_turn s phase)
   turn_typed s phase h n f r = either_way (λ (b : Bool). TypedBy c is (record s { turns = s.turns + 1; phase = if b then phase else phases.Ending ends.Turns })) (nat_lt (s.turns + 1) s.cfg.turns)
       (record { values = record { phase = h; attempt = r.attempt }; new = n; receivers = r.inside; entry = r.entry })

@@ -5,7 +5,6 @@ use Rattle.lists.proofs.{ListLaws.same_some, TestLaws.{first_true, second_true}}
 use Rattle.jvm_types.specs.{CodeTable.can_throw, Members.is_synchronized, Verifying.{covering, is_return}, declared.{code.Insn.Insn, outcome.Thrown.Thrown, program.Row.Row}}
 use Rattle.checked_program.{specs.{MarkedProgram.{MarkedProgram, IsMarked}, TaggedCode.caught, Tagging.{catches_all, until_all, catchers, tags_at_handler}}, proofs.CheckedPlaces.catchers_among}
 use Rattle.machine_types.specs.{Frames.{Top, handler_of, handler_at, monitor_of}, Onward.{Leaving, handed, unwound}, ReadyObjects.class_of, Structure.{Finishes, frames_inside}}
-use Rattle.machine_types.specs.{Threads.{Frame, Attempt}}
 use Rattle.laws_threads.{specs.InsideMoves.{GoesOnInside, OnwardStands, ThrowsInside}, proofs.{AttemptMoves.{not_alone, along, unwound_on}, FrameReturns.leaves_none, SectionFrames.Runs}}
 use Rattle.laws_threads.proofs.{FrameThrows.{may_leave_by, none_catches}, Inside.{InAttempt, locking, runs_inside, stays}, Standings.{top_here, top_at_standing, one_insn}, TypedMoves.handler_found}
 use Rattle.jvm_types.specs.declared.code.Op.TheVariants as ops
@@ -20,14 +19,11 @@ any_at test (y ∷ xs) (suc i) x e t = second_true (test y) (list_any test xs) (
 
 -- ---- the law
 
-not_finished : (a : Attempt) (x : ℕ) (class : Thrown) (fs : List Frame) → Finishes a (phases.Throw x class) fs → ⊥
-not_finished a x class fs f = let bad = f.leaves in cc
-
 module _ (c : MarkedProgram) (marked : IsMarked c) (x : ℕ) (class : Thrown) (thread : InAttempt c (phases.Throw x class)) where
   open thread use {frame as f, below, held, attempt as a, tries as k, agrees as s}
 
   never_finished : Finishes a (phases.Throw x class) (frames_inside a (f ∷ below)) → ⊥
-  never_finished = not_finished a x class (frames_inside a (f ∷ below))
+  never_finished f = let bad = f.leaves in cc
 
   abbrev r : Runs c a f (frames_inside a below)
   r = runs_inside c (phases.Throw x class) f below held a k never_finished

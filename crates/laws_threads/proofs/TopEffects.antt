@@ -1,5 +1,5 @@
 -- The effect of the instruction at which typed frames stand is allowed, and what it names is there.
-use Rattle.std.proofs.Common.{◌≡◌, ℕ, ◌<◌, ◌≤◌, ◌^◌, ◌⊎◌, inl, inr, Bool, true, false, List, [], ◌∷◌, ◌++◌, length, Some, refl, ap, sym, subst, ◌∙◌, arith, ◌==◌, slice_get, slice_index, if◌then◌else◌}
+use Rattle.std.proofs.Common.{◌≡◌, ℕ, ◌<◌, ◌≤◌, ◌^◌, inl, inr, Bool, true, false, List, [], ◌∷◌, ◌++◌, length, Some, refl, ap, sym, subst, ◌∙◌, arith, ◌==◌, slice_get, slice_index, if◌then◌else◌}
 use Rattle.std.proofs.lemmas.{Bool.{cond_both, Decides.nat_tests}, Option.get_or_from_slice_get}
 use Rattle.lists.proofs.{ListLaws.same_some, TestLaws.{first_true, second_true}}
 use Rattle.jvm_types.specs.{CodeTable.{arguments, is_init}, Members.{MethodSite, is_static}, Numbers.has_number, ProgramInvariant.{IsClassOf, site_in}}
@@ -14,7 +14,7 @@ use Rattle.machine_types.specs.{Words.variable_word, declared.effect.Effect.{Eff
 use Rattle.machine_types.specs.declared.effect.Variable.{Variable}
 use Rattle.laws_threads.specs.{Allowed.{IsOf, IsNamedField, WantHolds, TakenHold, OneOf, MadeAs, Allowed}, TopFrames.{GoesTo, IsReference, CallFits, MakesFit, IsAllowed, EffectsAreAllowed}}
 use Rattle.laws_threads.proofs.{Allowed.{MakesAt, below_args, effect_allowed}, Calls.{CallRow, call_row, takes_arguments, HasReceiver, call_receiver, receiver_first}}
-use Rattle.laws_threads.proofs.{Landing.{laid_at, rules_at, stand_top}, Standings.top_here, TopStand.row_here, Typing.{operands, edge_at}, Values.ValuesHold}
+use Rattle.laws_threads.proofs.{Landing.{laid_at, rules_at, stand_top}, Standings.top_here, TopStand.row_here, Typing.{operands, edge_at}}
 use Rattle.jvm_types.specs.declared.code.Op.TheVariants as ops
 use Rattle.jvm_types.specs.declared.program.Target.TheVariants as targets
 
@@ -25,9 +25,6 @@ class_named p site pc class (ops.New i) r h = h.1
 class_named p site pc class op r h = absurd (assumption)
 
 module _ (c : MarkedProgram) (marked : IsMarked c) (is : Classes) (out : is PRINT_STREAM_CLASS out_object) where
-  pub values_of : (f : Frame) (h : FrameHolds c is 0 f) → ValuesHold h.stands.method is h.stands.types f
-  values_of f h = record { stack = h.stack; locals = h.locals; receiver = h.receiver }
-
   makes_at : (m : MethodInfo) (i : ℕ) (insn : Insn) (target : Target) (r : OpRow) → IsLaidOut m → slice_get m.code i ≡ Some insn → slice_get m.targets i ≡ Some target
       → HasRow c.program (site_in m) insn.pc target insn.op r → MakesAt c.program m is [] insn.pc insn.next out target
   makes_at m i insn (targets.Class class) r laid e t h = (class_of_the_new m i insn class laid e t, class_named c.program (site_in m) insn.pc class insn.op r h)
@@ -36,7 +33,7 @@ module _ (c : MarkedProgram) (marked : IsMarked c) (is : Classes) (out : is PRIN
   pub taken_here : (f : Frame) (h : FrameHolds c is 0 f) → TakenHold h.stands.method is (row_of c.program h.stands.method h.stands.insn h.stands.target).takes f.stack
   taken_here f h =
       let rules = rules_at c marked f h.stands in
-      operands h.stands.method is (row_of c.program h.stands.method h.stands.insn h.stands.target) h.stands.types f rules.rules.takes rules.rules.types (values_of f h)
+      operands h.stands.method is (row_of c.program h.stands.method h.stands.insn h.stands.target) h.stands.types f rules.rules.takes rules.rules.types (record { stack = h.stack; locals = h.locals; receiver = h.receiver })
 
   pub allowed_here : (f : Frame) (h : FrameHolds c is 0 f)
       → Allowed c.program h.stands.method is h.stands.insn h.stands.target (row_of c.program h.stands.method h.stands.insn h.stands.target) f.stack
@@ -104,28 +101,21 @@ module _ (c : MarkedProgram) (marked : IsMarked c) where
 
     call_inside : (called : MethodInfo) (number : ℕ) → slice_get c.program.methods number ≡ Some called → (r : OpRow) → CallRow called r → TakenHold h.stands.method (within c.program) r.takes f.stack
         → is_static called.flags ≡ false → HasReceiver called f.stack → IsReference c.program (slice_index f.stack (length called.args))
-    call_inside called number e r call taken s has = by_kind call.by
-      where
-        v : ℕ
-        v = has.0
-
-        index : slice_index f.stack (length called.args) ≡ v
-        index = get_or_from_slice_get f.stack (length called.args) v 0 has.1
-
-        file : 17 ≤ called.class
-        file = (marked.checked.program.methods number called e).class.0
-
-        by_kind : ((is_static called.flags ≡ false) × (call.takes ≡ arguments called ++ receiver_want (is_init called) called.class ∷ [])) ⊎ ((is_static called.flags ≡ true) × (call.takes ≡ arguments called))
-            → IsReference c.program (slice_index f.stack (length called.args))
-        by_kind (inl k) =
-            let takes : r.takes ≡ arguments called ++ receiver_want (is_init called) called.class ∷ [] = ap (λ (x : OpRow). x.takes) call.is ∙ k.1 in
-            let want = receiver_want (is_init called) called.class in
-            let at = below_args c.program h.stands.method (within c.program) [] (arguments called) want f.stack (subst (λ (ws : List Want). TakenHold h.stands.method (within c.program) ws f.stack) takes taken) in
-            let there : slice_get f.stack (length called.args) ≡ Some at.0 = subst (λ (n : ℕ). slice_get f.stack n ≡ Some at.0) (long_arguments called) at.1 in
-            let same : at.0 ≡ v = same_some (sym there ∙ has.1) in
-            let inside = receiver_inside (is_init called) called.class at.0 file at.2 (subst (λ (n : ℕ). 0 < n) (sym same) has.2) in
-            subst (IsReference c.program) (same ∙ sym index) (subst (λ (n : ℕ). 0 < n) (sym same) has.2, inside)
-        by_kind (inr k) = absurd (let bad : true ≡ false = sym k.0 ∙ s in cc)
+    call_inside called number e r call taken s has =
+        let v = has.0 in
+        let index = get_or_from_slice_get f.stack (length called.args) v 0 has.1 in
+        let file = (marked.checked.program.methods number called e).class.0 in
+        elim call.by as (λ _. IsReference c.program (slice_index f.stack (length called.args))) [
+          | inl k ↦
+              let takes : r.takes ≡ arguments called ++ receiver_want (is_init called) called.class ∷ [] = ap (λ (x : OpRow). x.takes) call.is ∙ k.1 in
+              let want = receiver_want (is_init called) called.class in
+              let at = below_args c.program h.stands.method (within c.program) [] (arguments called) want f.stack (subst (λ (ws : List Want). TakenHold h.stands.method (within c.program) ws f.stack) takes taken) in
+              let there : slice_get f.stack (length called.args) ≡ Some at.0 = subst (λ (n : ℕ). slice_get f.stack n ≡ Some at.0) (long_arguments called) at.1 in
+              let same : at.0 ≡ v = same_some (sym there ∙ has.1) in
+              let inside = receiver_inside (is_init called) called.class at.0 file at.2 (subst (λ (n : ℕ). 0 < n) (sym same) has.2) in
+              subst (IsReference c.program) (same ∙ sym index) (subst (λ (n : ℕ). 0 < n) (sym same) has.2, inside)
+          | inr k ↦ absurd (let bad : true ≡ false = sym k.0 ∙ s in cc)
+        ]
 
     call_fits : (number : ℕ) (called : MethodInfo) → h.stands.target ≡ targets.Method number → slice_get c.program.methods number ≡ Some called
         → effect c.program h.stands.insn.next h.stands.target h.stands.insn.op f.locals f.stack ≡ Calls number → CallFits c.program (top_here c f fs h.stands) number

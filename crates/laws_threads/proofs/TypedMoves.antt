@@ -63,14 +63,11 @@ module _ (m : MethodInfo) (is : Classes) where
       subst (λ (gs : List Given). AllZip (Holds m is) (map (value_of Unknown (λ t. t) ts ls) gs ++ drop (length r.takes) ts) (given ++ s)) (sym gives)
       (result_stack called.result given ts ls (drop (length r.takes) ts) s g h)
 
-  call_locals : (called : MethodInfo) (r : OpRow) (ts ls : List VType) (l : List ℕ) → CallRow called r → AllZip (Holds m is) ls l → AllZip (Holds m is) (locals_after Unknown (λ t. t) r.writes ts ls) l
-  call_locals called r ts ls l call h = subst (λ (x : OpRow). AllZip (Holds m is) (locals_after Unknown (λ t. t) x.writes ts ls) l) (sym call.is) h
-
   pub values_behind : (called : MethodInfo) (r : OpRow) (g : TypeFrame) (f : Frame) (to : ℕ) (given : List ℕ) → types.mistypes m r g ≡ false → CallRow called r → AllZip (Holds m is) (result_types called.result) given
       → ValuesHold m is (record g { stack = drop (length r.takes) g.stack }) f → ValuesHold m is (frame_after m r g) (record f { pc = to; stack = given ++ f.stack })
   values_behind called r g f to given mistypes call result values = started_frame m is (started m.class r.takes g.stack) _ (record f { pc = to; stack = given ++ f.stack })
       (start_holds m is r.takes g.stack (or_parts (some_taken (λ want t. not (suits m want t)) r.takes g.stack) (some_read (λ want t. not (suits m want t)) r.reads g.locals) mistypes).0)
-      (record { stack = call_stack called r g.stack g.locals given f.stack call result values.stack; locals = call_locals called r g.stack g.locals f.locals call values.locals; receiver = values.receiver })
+      (record { stack = call_stack called r g.stack g.locals given f.stack call result values.stack; locals = subst (λ (x : OpRow). AllZip (Holds m is) (locals_after Unknown (λ t. t) x.writes g.stack g.locals) f.locals) (sym call.is) values.locals; receiver = values.receiver })
 
 -- ---- exceptions
 
