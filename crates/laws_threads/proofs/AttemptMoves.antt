@@ -62,36 +62,22 @@ module _ (c : MarkedProgram) (marked : IsMarked c) (phase : Phase) (f : Frame) (
   pub returned_on : (below : List Frame) (n : ℕ) (result : List ℕ) (k : AttemptStands c phase (f ∷ below) held a) → Runs c a f (frames_inside a below) → (a.base ≡ length below → ⊥) → OnwardStands c (back (given result (top_of c.program below)))
       → GoesOnInside c (back (given result (top_of c.program below))) held (record a { inner = n })
   returned_on [] n result k r never st = absurd (never (let l = k.based in omega (arith, l)))
-  returned_on (b ∷ more) n result k r never st = subst (λ o. GoesOnInside c (back (given result o)) held (record a { inner = n })) (sym (has_top c marked b more kb)) (goes (subst (λ o. OnwardStands c (back (given result o))) (has_top c marked b more kb) st))
-    where
-      low : a.base ≤ length more
-      low = not_base b more (base_below a f (b ∷ more) k.based) never
-
-      x : (upper : Runs c a f (b ∷ frames_inside a more)) × Caller c marked a f b (frames_inside a more) upper
-      x = below_is b more low r
-
-      kb : Standing c b
-      kb = x.1.runs.stands
-
-      call : called_method kb.insn.op x.1.call.target ≡ Some f.method
-      call =
-          let z = x.1.call in
-          let method : z.m ≡ kb.method = same_some (sym z.at.in_program ∙ kb.at.in_program) in
-          let same : z.insn ≡ kb.insn = same_some (sym z.at.in_code ∙ ap (λ (m : MethodInfo). slice_get m.code kb.number) method ∙ kb.at.in_code) in
-          subst (λ (i : Insn). called_method i.op z.target ≡ Some f.method) same z.called
-
-      g : Frame
-      g = record b { pc = kb.insn.next; stack = result ++ b.stack }
-
-      goes : Standing c g → AttemptStands c phases.Run (g ∷ more) held (record a { inner = n })
-      goes l =
-          let falls : falls_through kb.insn.op ≡ true = call_falls kb.insn.op x.1.call.target f.method call in
-          let edge : has_number (edges kb.insn) l.insn.pc ≡ true = subst (λ pc. has_number (edges kb.insn) pc ≡ true) (sym l.pc_is) (next_edge kb.insn falls) in
-          ⊎_elim
-          (λ (runs : RunsSection c a (g ∷ frames_inside a more)). stands_on c phase phases.Run (f ∷ b ∷ more) (g ∷ more) held a n k tt (omega (arith, low))
-          (put_back_over a g more low ∙ sym (put_back_over a f (b ∷ more) (omega (arith, low)) ∙ put_back_over a b more low)) (inr (subst (RunsSection c a) (sym (one_more a g more low)) runs)))
-          (λ (y : (frames_inside a more ≡ []) × IsExitOf c marked a b kb). absurd (no_exit kb.insn.op x.1.call.target f.method call y.1.exits))
-          (moved c marked a b g (frames_inside a more) x.1.runs l (tags_after kb.insn (row_of c.program kb.method kb.insn kb.target) kb.tags) refl refl (onward l.insn edge))
+  returned_on (b ∷ more) n result k r never st =
+      let low = not_base b more (base_below a f (b ∷ more) k.based) never in
+      let x = below_is b more low r in
+      let kb : Standing c b = x.1.runs.stands in
+      let z = x.1.call in
+      let method : z.m ≡ kb.method = same_some (sym z.at.in_program ∙ kb.at.in_program) in
+      let same : z.insn ≡ kb.insn = same_some (sym z.at.in_code ∙ ap (λ (m : MethodInfo). slice_get m.code kb.number) method ∙ kb.at.in_code) in
+      let call : called_method kb.insn.op z.target ≡ Some f.method = subst (λ (i : Insn). called_method i.op z.target ≡ Some f.method) same z.called in
+      let g : Frame = record b { pc = kb.insn.next; stack = result ++ b.stack } in
+      let l : Standing c g = subst (λ o. OnwardStands c (back (given result o))) (has_top c marked b more kb) st in
+      let edge : has_number (edges kb.insn) l.insn.pc ≡ true = subst (λ pc. has_number (edges kb.insn) pc ≡ true) (sym l.pc_is) (next_edge kb.insn (call_falls kb.insn.op z.target f.method call)) in
+      subst (λ o. GoesOnInside c (back (given result o)) held (record a { inner = n })) (sym (has_top c marked b more kb)) (⊎_elim
+      (λ (runs : RunsSection c a (g ∷ frames_inside a more)). stands_on c phase phases.Run (f ∷ b ∷ more) (g ∷ more) held a n k tt (omega (arith, low))
+      (put_back_over a g more low ∙ sym (put_back_over a f (b ∷ more) (omega (arith, low)) ∙ put_back_over a b more low)) (inr (subst (RunsSection c a) (sym (one_more a g more low)) runs)))
+      (λ (y : (frames_inside a more ≡ []) × IsExitOf c marked a b kb). absurd (no_exit kb.insn.op z.target f.method call y.1.exits))
+      (moved c marked a b g (frames_inside a more) x.1.runs l (tags_after kb.insn (row_of c.program kb.method kb.insn kb.target) kb.tags) refl refl (onward l.insn edge)))
 
   pub unwound_on : (below : List Frame) (n r : ℕ) (class : Thrown) (k : AttemptStands c phase (f ∷ below) held a) → Runs c a f (frames_inside a below) → (a.base ≡ length below → ⊥) → GoesOnInside c (unwound r class below) held (record a { inner = n })
   unwound_on [] n o class k r never = absurd (never (let l = k.based in omega (arith, l)))

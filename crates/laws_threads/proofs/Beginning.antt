@@ -40,22 +40,13 @@ module _ (c : MarkedProgram) (marked : IsMarked c) (f : Frame) (k : Standing c f
       (cases_eq e.insn.pc pc)
 
   on_receiver : (pc : ℕ) → suc pc ≡ f.pc → IsOnOwn c.program (tags_of c) f.method (Block pc) → IsOnReceiver pc
-  on_receiver pc before (enter, g, b, this) = record { pc_is = ap (λ (x : Insn). x.pc) same_insn ∙ begins.pc_is; tags = g; there = ap (λ fs. slice_get fs e.at) same_frames ∙ ap (λ n. slice_get begins.at.frames n) (sym same) ∙ begins.at.frame; this = this }
-    where
-      begins : BeginsAt c.program (tags_of c) f.method pc enter g
-      begins = b
-
-      there : slice_get k.method.code enter ≡ Some begins.insn
-      there = subst (λ (m : MethodInfo). slice_get m.code enter ≡ Some begins.insn) (same_some (sym begins.at.in_program ∙ k.at.in_program)) begins.at.in_code
-
-      same : enter ≡ e.at
-      same = just_before c marked f k e enter begins.insn there (ap suc begins.pc_is ∙ before)
-
-      same_insn : e.insn ≡ begins.insn
-      same_insn = same_some (sym e.there ∙ ap (λ n. slice_get k.method.code n) (sym same) ∙ there)
-
-      same_frames : k.at.frames ≡ begins.at.frames
-      same_frames = same_some (sym k.at.of_method ∙ begins.at.of_method)
+  on_receiver pc before (enter, g, b, this) =
+      let begins : BeginsAt c.program (tags_of c) f.method pc enter g = b in
+      let there : slice_get k.method.code enter ≡ Some begins.insn = subst (λ (m : MethodInfo). slice_get m.code enter ≡ Some begins.insn) (same_some (sym begins.at.in_program ∙ k.at.in_program)) begins.at.in_code in
+      let same : enter ≡ e.at = just_before c marked f k e enter begins.insn there (ap suc begins.pc_is ∙ before) in
+      let same_insn : e.insn ≡ begins.insn = same_some (sym e.there ∙ ap (λ n. slice_get k.method.code n) (sym same) ∙ there) in
+      let same_frames : k.at.frames ≡ begins.at.frames = same_some (sym k.at.of_method ∙ begins.at.of_method) in
+      record { pc_is = ap (λ (x : Insn). x.pc) same_insn ∙ begins.pc_is; tags = g; there = ap (λ fs. slice_get fs e.at) same_frames ∙ ap (λ n. slice_get begins.at.frames n) (sym same) ∙ begins.at.frame; this = this }
 
   -- so it is where the block is marked
   by_mark : (pc : ℕ) (uses : Uses) → suc pc ≡ f.pc → HasMark c.program (tags_of c) uses (record { method = f.method; spot = Block pc }) 0 → IsOnReceiver pc

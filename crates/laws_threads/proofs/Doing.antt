@@ -1,27 +1,19 @@
 -- What an instruction does keeps the types of its thread's frames, whatever its effect.
 use Rattle.std.proofs.{Common.{◌≡◌, ℕ, ◌<◌, inl, Bool, List, ◌∷◌, length, Option, Some, None, refl, sym, subst, arith, slice_get, drop, option_map, if◌then◌else◌}, lemmas.Bool.cond_both}
-use Rattle.jvm_types.specs.{ClassNames.file_of_class, Members.{is_static, is_synchronized, MethodSite}, ProgramInvariant.site_in, Verifying.edges, declared.class_numbers.TheConstants.CLASS_ITSELF}
-use Rattle.jvm_types.specs.declared.{code.Op.Op, op_row.OpRow.OpRow, outcome.Thrown.Thrown, program.{MethodInfo.MethodInfo, Program.Program, Target.Target}}
+use Rattle.jvm_types.specs.{ClassNames.file_of_class, Members.{is_static, is_synchronized}, ProgramInvariant.site_in, Verifying.edges, declared.class_numbers.TheConstants.CLASS_ITSELF}
+use Rattle.jvm_types.specs.declared.{op_row.OpRow.OpRow, outcome.Thrown.Thrown, program.{MethodInfo.MethodInfo, Target.Target}}
 use Rattle.laws_programs.specs.TargetLaws.{HasRow}
 use Rattle.checked_program.specs.{MarkedProgram.{MarkedProgram, IsMarked}, Marks.called_method, TaggedCode.row_of}
 use Rattle.machine_types.specs.{Effects.effect, Frames.{first_or_null, monitor_of, effect_at, frame_on, went, went_on, waiting, has_room, entry_frame, arguments_of}}
 use Rattle.machine_types.specs.{Onward.{Running, Throwing, Entering, threw, entered, called, done}, ReadyObjects.{class_of, thrown_of}, Threads.Frame}
 use Rattle.machine_types.specs.{Typed.{Classes, FrameHolds, HoldBelow, FramesHold, IsObject}, Words.{header_class, header_length}, declared.effect.Effect.Effect}
 use Rattle.machine_types.specs.declared.effect.Effect.TheVariants.{Goes, Throws, Reads, Writes, Measures, Raises, Prints, Calls, Returns, Enters, Leaves}
-use Rattle.laws_threads.{specs.Allowed.{OneOf, HasRowTypes, IsByMachine, Allowed}, proofs.{CalledEntries.{call_values, enters}, Calls.{call_row, call_receiver}, Landing.rules_at}}
-use Rattle.laws_threads.proofs.{Onwards.{Keeps, keeps_all, keeps_top, keeps_push, HasObjects, FoundHolds, Onwards, IfOnwards, goes_out}, Standings.top_here, Tests.either_way, ThreadMove.if_either}
-use Rattle.laws_threads.proofs.{TopEffects.taken_here, TypedMoves.{goes, waits}, Values.ValuesHold}
-use Rattle.jvm_types.specs.declared.code.Op.TheVariants as ops
+use Rattle.laws_threads.{specs.Allowed.{OneOf, HasRowTypes, IsByMachine, Allowed}, proofs.{CalledEntries.{call_values, enters}, Calls.{call_row, call_receiver}, Landing.rules_at, Standings.top_here}}
+use Rattle.laws_threads.proofs.{EffectsOfInsns.{Fits, IsCalling, effect_fits}, Onwards.{Keeps, keeps_all, keeps_top, keeps_push, HasObjects, FoundHolds, Onwards, IfOnwards, goes_out}}
+use Rattle.laws_threads.proofs.{Tests.either_way, ThreadMove.if_either, TopEffects.taken_here, TypedMoves.{goes, waits}, Values.ValuesHold}
 use Rattle.jvm_types.specs.declared.outcome.Thrown.TheVariants as thrown
 use Rattle.jvm_types.specs.declared.program.Target.TheVariants as targets
 use Rattle.jvm_types.specs.Types as types
-
--- a method that is named where it is called
-call_named : (p : Program) (site : MethodSite) (pc number : ℕ) (op : Op) (r : OpRow) → HasRow p site pc (targets.Method number) op r → called_method op (targets.Method number) ≡ Some number
-call_named p site pc number (ops.Invokevirtual i) r h = refl
-call_named p site pc number (ops.Invokespecial i) r h = refl
-call_named p site pc number (ops.Invokestatic i) r h = refl
-call_named p site pc number op r h = absurd (assumption)
 
 module _ (c : MarkedProgram) (marked : IsMarked c) (is : Classes) (has : HasObjects c.program is) (f : Frame) (fs : List Frame) (h : FrameHolds c is 0 f) (b : HoldBelow c is f.method fs) where
   pub runs_on : (to made : ℕ) → OneOf (edges h.stands.insn) to → HasRowTypes h.stands.method is (row_of c.program h.stands.method h.stands.insn h.stands.target) made
@@ -55,9 +47,8 @@ module _ (c : MarkedProgram) (marked : IsMarked c) (is : Classes) (has : HasObje
     call_names : called_method h.stands.insn.op h.stands.target ≡ Some number
     call_names =
         let k = h.stands in
-        let r : OpRow = row_of c.program k.method k.insn k.target in
-        subst (λ (x : Target). called_method k.insn.op x ≡ Some number) (sym t)
-        (call_named c.program (site_in k.method) k.insn.pc number k.insn.op r (subst (λ (x : Target). HasRow c.program (site_in k.method) k.insn.pc x k.insn.op r) t (rules_at c marked f k).has_row))
+        let fits : IsCalling c.program k.insn k.target f.stack number = subst (Fits c.program k.method k.insn k.target f.stack) calls (effect_fits c.program k.method k.insn.pc k.insn.next k.target k.insn.op f.locals f.stack (rules_at c marked f k).has_row) in
+        fits.names
 
     -- the receiver of the new frame lies in the heap, also the 0 of a static method
     entry_inside : frame.receiver < c.program.heap

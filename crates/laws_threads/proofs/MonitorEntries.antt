@@ -105,25 +105,18 @@ module _ (begin : BeginsAttempt) (entered_again : EntersInside) (c : MarkedProgr
   -- an attempt begins
   pub begun : IsMarked c → held_at s.held m ≡ None → s.attempt ≡ None → enters_marked c s.frames ≡ true → (noted number : ℕ) (f : Frame) (below : List Frame) → s.frames ≡ f ∷ below
       → StaysStructured c (phases.Enter m tried) (runs (record s { attempt = Some (record { monitor = m; noted = noted; base = length below; number = number; inner = 0; entry = f }) }))
-  begun marked e none may noted number f below same = running c (phases.Enter m tried) (record s { attempt = Some a }) stands (subst (λ (fs : List Frame). AttemptStands c phases.Run fs s.held a) (sym same) tried_there)
-    where
-      a : Attempt
-      a = record { monitor = m; noted = noted; base = length below; number = number; inner = 0; entry = f }
-
-      before : Stands c (phases.Enter m tried) (f ∷ below) s.held None
-      before = subst (λ (fs : List Frame). Stands c (phases.Enter m tried) fs s.held None) same (subst (λ (o : Option Attempt). Stands c (phases.Enter m tried) s.frames s.held o) none k)
-
-      tried_there : AttemptStands c phases.Run (f ∷ below) s.held a
-      tried_there = begin c m tried noted number f below s.held marked before e (subst (λ (fs : List Frame). enters_marked c fs ≡ true) same may)
-
-      stands : Stands c phases.Run s.frames s.held (Some a)
-      stands = record {
+  begun marked e none may noted number f below same =
+      let a : Attempt = record { monitor = m; noted = noted; base = length below; number = number; inner = 0; entry = f } in
+      let before : Stands c (phases.Enter m tried) (f ∷ below) s.held None = subst (λ (fs : List Frame). Stands c (phases.Enter m tried) fs s.held None) same (subst (λ (o : Option Attempt). Stands c (phases.Enter m tried) s.frames s.held o) none k) in
+      let tried_there : AttemptStands c phases.Run (f ∷ below) s.held a = begin c m tried noted number f below s.held marked before e (subst (λ (fs : List Frame). enters_marked c fs ≡ true) same may) in
+      let stands : Stands c phases.Run s.frames s.held (Some a) = record {
         shown = k.shown;
         show = k.show;
         depths = λ n. let d = k.depths n in let now : tried_depth n s.attempt ≡ 0 = ap (tried_depth n) none in let here : cond (m == n) (0 + 1) 0 ≡ once_at m n = refl in omega arith;
         once = k.once;
         phase_shows = entered_frame c m s.frames k.phase_shows.enters;
-      }
+      } in
+      running c (phases.Enter m tried) (record s { attempt = Some a }) stands (subst (λ (fs : List Frame). AttemptStands c phases.Run fs s.held a) (sym same) tried_there)
 
   -- inside an attempt on the monitor
   pub deeper_inside : (a : Attempt) → s.attempt ≡ Some a → a.monitor ≡ m → StaysStructured c (phases.Enter m tried) (runs (record s { attempt = Some (record a { inner = a.inner + 1 }) }))

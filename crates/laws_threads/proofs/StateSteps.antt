@@ -1,6 +1,5 @@
 -- The threads of a state stay structured.
-use Rattle.std.proofs.Common.{◌≡◌, ℕ, zero, suc, Bool, true, false, cond, List, [], ◌∷◌, Option, Some, None, refl, sym, ap, ◌∙◌, subst, arith, ◌==◌, slice_get, slice_set}
-use Rattle.std.proofs.lemmas.Bool.Decides.{nat_tests}
+use Rattle.std.proofs.{Common.{◌≡◌, ℕ, zero, suc, Bool, false, cond, List, [], ◌∷◌, Option, Some, None, refl, sym, ap, ◌∙◌, subst, arith, ◌==◌, slice_get, slice_set}, lemmas.Bool.Decides.nat_tests}
 use Rattle.checked_program.specs.MarkedProgram.{MarkedProgram, IsMarked}
 use Rattle.machine_types.specs.{Accesses.found_by, Bounds.IsRooted, Core.{Core, event_of}, Events.{wanted, moved}, PlainMemory.Object, Structure.{IsStructured, Structure}, Threads.Thread}
 use Rattle.machine_types.specs.{Typed.{HasClass, ThreadHolds}, declared.phase.Phase.Phase}
@@ -25,21 +24,14 @@ set_other (a ∷ xs) (suc i) (suc j) x d = set_other xs i j x (grind (arith, nat
 
 module _ (begin : BeginsAttempt) (entered_again : EntersInside) (c : MarkedProgram) (objects : List Object) (was : ℕ → Phase) (s : Core) (t : ℕ) (marked : IsMarked c) (structure : Structure c was s.threads) where
   moved_thread : (x : Thread) (got : ℕ) → slice_get s.threads t ≡ Some x → ThreadHolds c (HasClass objects) x × IsRooted c.program x → Structure c (counted_phase_at was t (slice_set s.threads t (moved c x x.phase got))) (slice_set s.threads t (moved c x x.phase got))
-  moved_thread x got e k u y f = by_number (u == t) refl
-    where
-      now : Thread
-      now = moved c x x.phase got
-
-      stays : StaysStructured c (was t) now
-      stays = structure_kept begin entered_again (HasClass objects) c (was t) x got marked (structure t x e) k.0 k.1
-
-      by_number : (b : Bool) → (u == t) ≡ b → IsStructured c (cond b (counted_of (was t) (slice_get (slice_set s.threads t now) t)) (was u)) y
-      by_number true g =
-          let same : u ≡ t = grind (arith, nat_tests, g) in
-          let at : slice_get (slice_set s.threads t now) t ≡ Some y = ap (λ (n : ℕ). slice_get (slice_set s.threads t now) n) (sym same) ∙ f in
-          let one : now ≡ y = set_there s.threads t x now y e at in
-          subst (λ (o : Option Thread). IsStructured c (counted_of (was t) o) y) (sym at) (subst (λ (z : Thread). StaysStructured c (was t) z) one stays)
-      by_number false g = structure u y (sym (set_other s.threads t u now g) ∙ f)
+  moved_thread x got e k u y f =
+      let now : Thread = moved c x x.phase got in
+      let stays : StaysStructured c (was t) now = structure_kept begin entered_again (HasClass objects) c (was t) x got marked (structure t x e) k.0 k.1 in
+      either_way (λ (b : Bool). (u == t) ≡ b → IsStructured c (cond b (counted_of (was t) (slice_get (slice_set s.threads t now) t)) (was u)) y) (u == t)
+      (λ g. let same : u ≡ t = grind (arith, nat_tests, g) in
+      let at : slice_get (slice_set s.threads t now) t ≡ Some y = ap (λ (n : ℕ). slice_get (slice_set s.threads t now) n) (sym same) ∙ f in
+      subst (λ (o : Option Thread). IsStructured c (counted_of (was t) o) y) (sym at) (subst (λ (z : Thread). StaysStructured c (was t) z) (set_there s.threads t x now y e at) stays))
+      (λ g. structure u y (sym (set_other s.threads t u now g) ∙ f)) refl
 
   unmoved : slice_get s.threads t ≡ None → Structure c (counted_phase_at was t s.threads) s.threads
   unmoved e u y f = either_way (λ (b : Bool). (u == t) ≡ b → IsStructured c (cond b (counted_of (was t) (slice_get s.threads t)) (was u)) y) (u == t)
