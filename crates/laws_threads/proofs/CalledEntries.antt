@@ -77,13 +77,6 @@ module _ (m : MethodInfo) (is : Classes) where
       receiver_is false v (inl z) some = absurd (omega (arith, z, some))
       receiver_is false v (inr k) some = subst (λ (d : ℕ). is d v) (files_alone k.0 called.class file k.2) k.1
 
-      on_receiver : (number : ℕ) (vs : List ℕ) (b : Bool) (v : ℕ) (rest : List ℕ) → is_static called.flags ≡ false → vs ≡ v ∷ rest → 0 < v → AllZip (WantHolds m is) (receiver_want b called.class ∷ map want_of called.args) vs
-          → ValuesHold called is (types.entry_type_frame called) (entry_frame number called vs)
-      on_receiver number [] b v rest s e some h = absurd h
-      on_receiver number (w ∷ ws) b v rest s e some h =
-          let first : w ≡ v = cc in
-          instance_values number w ws s (receiver_is b w h.0 (subst (λ (n : ℕ). 0 < n) (sym first) some)) (kind_args called.args ws h.1)
-
       pub call_values : (number : ℕ) (r : OpRow) (s : List ℕ) → CallRow called r → TakenHold m is r.takes s → (is_static called.flags ≡ false → HasReceiver called s)
           → ValuesHold called is (types.entry_type_frame called) (entry_frame number called (reverse (take (length r.takes) s)))
       call_values number r s call taken has = by_kind call.by
@@ -101,7 +94,9 @@ module _ (m : MethodInfo) (is : Classes) where
               let count : length r.takes ≡ suc (length called.args) = ap (λ (x : OpRow). length x.takes) call.is ∙ ap length k.1 ∙ omega (arith, length-append (arguments called) (want ∷ []), long_arguments called) in
               let first = deepest_first (length called.args) s v.0 v.1 in
               let zip = subst (λ (ws : List Want). AllZip (WantHolds m is) ws (reverse (take (length r.takes) s))) (wants_in_order want) (ordered (arguments called ++ want ∷ []) k.1) in
-              on_receiver number (reverse (take (length r.takes) s)) (is_init called) v.0 first.0 k.0 (ap (λ n. reverse (take n s)) count ∙ first.1) v.2 zip
+              let all : reverse (take (length r.takes) s) ≡ v.0 ∷ first.0 = ap (λ n. reverse (take n s)) count ∙ first.1 in
+              let each = subst (λ (vs : List ℕ). AllZip (WantHolds m is) (want ∷ map want_of called.args) vs) all zip in
+              subst (λ (vs : List ℕ). ValuesHold called is (types.entry_type_frame called) (entry_frame number called vs)) (sym all) (instance_values number v.0 first.0 k.0 (receiver_is (is_init called) v.0 each.0 v.2) (kind_args called.args first.0 each.1))
           by_kind (inr k) =
               let zip = subst (λ (ws : List Want). AllZip (WantHolds m is) ws (reverse (take (length r.takes) s))) (reverse_map want_of called.args) (ordered (arguments called) k.1) in
               static_values number (reverse (take (length r.takes) s)) k.0 (kind_args called.args (reverse (take (length r.takes) s)) zip)
