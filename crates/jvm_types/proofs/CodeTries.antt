@@ -1,6 +1,7 @@
 -- What the definitions of code say of small codes, by computing.
-use Rattle.std.proofs.Common.{◌≡◌, [], ◌∷◌, Some, None, refl, ℕ, List, filter, is_some, zero, suc}
-use Rattle.jvm_types.specs.{CodeFault.code_fault, CodeTable.form_of, declared.refusal.KRule.TheVariants.{K1, K2, K3, K4, K5, K6}}
+use Rattle.std.proofs.Common.{◌≡◌, [], ◌∷◌, ◌++◌, ◌==◌, Option, Some, None, refl, ℕ, pos, List, filter, is_some, not, zero, suc}
+use Rattle.jvm_types.specs.CodeTable.{form_of, first_row, opcode, Form, FormRows, Plain, Byte, Short, SignedByte, SignedShort, Branch, WideBranch, LocalAndStep, IntArray, Table, Lookup, constants, loads, stores, stack_moves, arithmetic, control, references}
+use Rattle.jvm_types.specs.{CodeFault.code_fault, declared.code.Op.TheVariants.{Tableswitch, Lookupswitch}, declared.refusal.KRule.TheVariants.{K1, K2, K3, K4, K5, K6}}
 
 no_bytes : code_fault [] [] ≡ Some (K5, 0)
 no_bytes = refl
@@ -69,15 +70,34 @@ abbrev below : ℕ → List ℕ → List ℕ
 below zero bs = bs
 below (suc n) bs = below n (n ∷ bs)
 
-abbrev known : List ℕ → List ℕ
-known bs = filter (λ b. is_some (form_of b)) bs
+abbrev known : List ℕ
+known = filter (λ b. is_some (form_of b)) (below 256 [])
 
-opcodes : known (below 256 []) ≡
-    0x00 ∷ 0x01 ∷ 0x02 ∷ 0x03 ∷ 0x04 ∷ 0x05 ∷ 0x06 ∷ 0x07 ∷ 0x08 ∷ 0x10 ∷ 0x11 ∷ 0x12 ∷ 0x13
-    ∷ 0x15 ∷ 0x19 ∷ 0x1a ∷ 0x1b ∷ 0x1c ∷ 0x1d ∷ 0x2a ∷ 0x2b ∷ 0x2c ∷ 0x2d ∷ 0x2e
-    ∷ 0x36 ∷ 0x3a ∷ 0x3b ∷ 0x3c ∷ 0x3d ∷ 0x3e ∷ 0x4b ∷ 0x4c ∷ 0x4d ∷ 0x4e ∷ 0x4f
-    ∷ 0x57 ∷ 0x58 ∷ 0x59 ∷ 0x5a ∷ 0x5b ∷ 0x5c ∷ 0x5f
-    ∷ 0x60 ∷ 0x64 ∷ 0x68 ∷ 0x6c ∷ 0x70 ∷ 0x74 ∷ 0x78 ∷ 0x7a ∷ 0x7c ∷ 0x7e ∷ 0x80 ∷ 0x82 ∷ 0x84 ∷ 0x91 ∷ 0x92 ∷ 0x93
-    ∷ 0x99 ∷ 0x9a ∷ 0x9b ∷ 0x9c ∷ 0x9d ∷ 0x9e ∷ 0x9f ∷ 0xa0 ∷ 0xa1 ∷ 0xa2 ∷ 0xa3 ∷ 0xa4 ∷ 0xa5 ∷ 0xa6 ∷ 0xa7 ∷ 0xaa ∷ 0xab ∷ 0xac ∷ 0xb0 ∷ 0xb1
-    ∷ 0xb2 ∷ 0xb3 ∷ 0xb4 ∷ 0xb5 ∷ 0xb6 ∷ 0xb7 ∷ 0xb8 ∷ 0xbb ∷ 0xbc ∷ 0xbe ∷ 0xbf ∷ 0xc2 ∷ 0xc3 ∷ 0xc6 ∷ 0xc7 ∷ 0xc8 ∷ []
+abbrev groups : ℕ → FormRows
+groups b =
+    constants b ++ (loads b ++ (stores b ++ (stack_moves b ++ (arithmetic b ++ (control b ++ references b)))))
+
+-- each row is found, whatever group it stands in
+in_groups : known ≡ filter (λ b. is_some (first_row (groups b))) (below 256 [])
+in_groups = refl
+
+-- the opcode of what a form makes
+abbrev of_form : Option Form → ℕ
+of_form None = 256
+of_form (Some (Plain op)) = opcode op
+of_form (Some (Byte make)) = opcode (make 0)
+of_form (Some (Short make)) = opcode (make 0)
+of_form (Some (SignedByte make)) = opcode (make (pos 0))
+of_form (Some (SignedShort make)) = opcode (make (pos 0))
+of_form (Some (Branch make)) = opcode (make 0)
+of_form (Some (WideBranch make)) = opcode (make 0)
+of_form (Some (LocalAndStep make)) = opcode (make 0 (pos 0))
+of_form (Some (IntArray op)) = opcode op
+of_form (Some Table) = opcode (Tableswitch 0 (pos 0) [])
+of_form (Some Lookup) = opcode (Lookupswitch 0 [])
+
+-- an instruction has the opcode at which the table makes it, but for those that name their local
+opcodes : filter (λ b. not (of_form (form_of b) == b)) known ≡
+    0x1a ∷ 0x1b ∷ 0x1c ∷ 0x1d ∷ 0x2a ∷ 0x2b ∷ 0x2c ∷ 0x2d
+    ∷ 0x3b ∷ 0x3c ∷ 0x3d ∷ 0x3e ∷ 0x4b ∷ 0x4c ∷ 0x4d ∷ 0x4e ∷ []
 opcodes = refl

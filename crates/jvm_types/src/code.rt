@@ -1,5 +1,8 @@
 //! The instructions of a method (JVMS 6), with the targets of branches as pcs.
 
+ghost use Rattle.std.specs.Prelude.{◌≡◌};
+ghost use Rattle.jvm_types.specs.CodeTable.{iconst_opcode, if_opcode, compare_opcode, opcode};
+
 use lists::Rows;
 
 /// How the ints of a conditional branch are compared.
@@ -100,6 +103,126 @@ pub enum Op {
     Athrow,
     Monitorenter,
     Monitorexit,
+}
+
+/// `iconst_m1` to `iconst_5`; code has no other numbers there.
+fn iconst_opcode(n: i32) -> u8
+    ensures { result ≡ iconst_opcode n }
+{
+    if n < 0 {
+        0x02
+    } else if n < 1 {
+        0x03
+    } else if n < 2 {
+        0x04
+    } else if n < 3 {
+        0x05
+    } else if n < 4 {
+        0x06
+    } else if n < 5 {
+        0x07
+    } else {
+        0x08
+    }
+}
+
+fn if_opcode(c: Cmp) -> u8
+    ensures { result ≡ if_opcode c }
+{
+    match c {
+        Cmp::Eq => 0x99,
+        Cmp::Ne => 0x9a,
+        Cmp::Lt => 0x9b,
+        Cmp::Ge => 0x9c,
+        Cmp::Gt => 0x9d,
+        Cmp::Le => 0x9e,
+    }
+}
+
+fn compare_opcode(c: Cmp) -> u8
+    ensures { result ≡ compare_opcode c }
+{
+    match c {
+        Cmp::Eq => 0x9f,
+        Cmp::Ne => 0xa0,
+        Cmp::Lt => 0xa1,
+        Cmp::Ge => 0xa2,
+        Cmp::Gt => 0xa3,
+        Cmp::Le => 0xa4,
+    }
+}
+
+impl Op {
+    /// The opcode. The forms that an instruction shares have that of the one whose local stands
+    /// beside it: `iload` and `iload_0` are `iload`.
+    pub fn opcode(&self) -> u8
+        ensures { result ≡ opcode self.now }
+    {
+        match self {
+            Op::Nop => 0x00,
+            Op::AconstNull => 0x01,
+            Op::Iconst(n) => iconst_opcode(*n),
+            Op::Bipush(_) => 0x10,
+            Op::Sipush(_) => 0x11,
+            Op::Ldc(_) => 0x12,
+            Op::LdcW(_) => 0x13,
+            Op::Iload(_) => 0x15,
+            Op::Aload(_) => 0x19,
+            Op::Istore(_) => 0x36,
+            Op::Astore(_) => 0x3a,
+            Op::Iaload => 0x2e,
+            Op::Iastore => 0x4f,
+            Op::Pop => 0x57,
+            Op::Pop2 => 0x58,
+            Op::Dup => 0x59,
+            Op::DupX1 => 0x5a,
+            Op::DupX2 => 0x5b,
+            Op::Dup2 => 0x5c,
+            Op::Swap => 0x5f,
+            Op::Iadd => 0x60,
+            Op::Isub => 0x64,
+            Op::Imul => 0x68,
+            Op::Idiv => 0x6c,
+            Op::Irem => 0x70,
+            Op::Ineg => 0x74,
+            Op::Ishl => 0x78,
+            Op::Ishr => 0x7a,
+            Op::Iushr => 0x7c,
+            Op::Iand => 0x7e,
+            Op::Ior => 0x80,
+            Op::Ixor => 0x82,
+            Op::Iinc(_, _) => 0x84,
+            Op::I2b => 0x91,
+            Op::I2c => 0x92,
+            Op::I2s => 0x93,
+            Op::If(c, _) => if_opcode(*c),
+            Op::IfIcmp(c, _) => compare_opcode(*c),
+            Op::IfAcmpeq(_) => 0xa5,
+            Op::IfAcmpne(_) => 0xa6,
+            Op::Ifnull(_) => 0xc6,
+            Op::Ifnonnull(_) => 0xc7,
+            Op::Goto(_) => 0xa7,
+            Op::GotoW(_) => 0xc8,
+            Op::Tableswitch { .. } => 0xaa,
+            Op::Lookupswitch { .. } => 0xab,
+            Op::Ireturn => 0xac,
+            Op::Areturn => 0xb0,
+            Op::Return => 0xb1,
+            Op::Getstatic(_) => 0xb2,
+            Op::Putstatic(_) => 0xb3,
+            Op::Getfield(_) => 0xb4,
+            Op::Putfield(_) => 0xb5,
+            Op::Invokevirtual(_) => 0xb6,
+            Op::Invokespecial(_) => 0xb7,
+            Op::Invokestatic(_) => 0xb8,
+            Op::New(_) => 0xbb,
+            Op::Newarray => 0xbc,
+            Op::Arraylength => 0xbe,
+            Op::Athrow => 0xbf,
+            Op::Monitorenter => 0xc2,
+            Op::Monitorexit => 0xc3,
+        }
+    }
 }
 
 /// An instruction at its place.
