@@ -2,6 +2,8 @@
 
 ghost use Rattle.std.specs.Prelude.{◌≡◌, IfOk};
 ghost use Rattle.jvm_types.specs.CodeTable.{iconst_opcode, if_opcode, compare_opcode, opcode};
+ghost use Rattle.jvm_types.specs.CodeTable.{first_row, constants, loads, stores, stack_moves};
+ghost use Rattle.jvm_types.specs.CodeTable.{arithmetic, control, references, form_of, plain_op};
 
 use lists::Rows;
 use std::alloc::{AllocError, Global};
@@ -153,7 +155,130 @@ fn compare_opcode(c: Cmp) -> u8
     }
 }
 
+/// 0x00 to 0x13: a constant is pushed.
+fn plain_constant(opcode: u8) -> Option<Op>
+    ensures { result ≡ plain_op (first_row (constants opcode)) }
+{
+    match opcode {
+        0x00 => Some(Op::Nop),
+        0x01 => Some(Op::AconstNull),
+        0x02..=0x08 => Some(Op::Iconst(i32::from(opcode) - 3)),
+        _ => None,
+    }
+}
+
+/// 0x15 to 0x2e: a local or an element is pushed.
+fn plain_load(opcode: u8) -> Option<Op>
+    ensures { result ≡ plain_op (first_row (loads opcode)) }
+{
+    match opcode {
+        0x1a..=0x1d => Some(Op::Iload(u16::from(opcode) - 0x1a)),
+        0x2a..=0x2d => Some(Op::Aload(u16::from(opcode) - 0x2a)),
+        0x2e => Some(Op::Iaload),
+        _ => None,
+    }
+}
+
+/// 0x36 to 0x4f: a local or an element is written.
+fn plain_store(opcode: u8) -> Option<Op>
+    ensures { result ≡ plain_op (first_row (stores opcode)) }
+{
+    match opcode {
+        0x3b..=0x3e => Some(Op::Istore(u16::from(opcode) - 0x3b)),
+        0x4b..=0x4e => Some(Op::Astore(u16::from(opcode) - 0x4b)),
+        0x4f => Some(Op::Iastore),
+        _ => None,
+    }
+}
+
+/// 0x57 to 0x5f: the stack alone.
+fn plain_stack_move(opcode: u8) -> Option<Op>
+    ensures { result ≡ plain_op (first_row (stack_moves opcode)) }
+{
+    match opcode {
+        0x57 => Some(Op::Pop),
+        0x58 => Some(Op::Pop2),
+        0x59 => Some(Op::Dup),
+        0x5a => Some(Op::DupX1),
+        0x5b => Some(Op::DupX2),
+        0x5c => Some(Op::Dup2),
+        0x5f => Some(Op::Swap),
+        _ => None,
+    }
+}
+
+/// 0x60 to 0x93: arithmetic on ints, and conversions of an int.
+fn plain_arithmetic(opcode: u8) -> Option<Op>
+    ensures { result ≡ plain_op (first_row (arithmetic opcode)) }
+{
+    match opcode {
+        0x60 => Some(Op::Iadd),
+        0x64 => Some(Op::Isub),
+        0x68 => Some(Op::Imul),
+        0x6c => Some(Op::Idiv),
+        0x70 => Some(Op::Irem),
+        0x74 => Some(Op::Ineg),
+        0x78 => Some(Op::Ishl),
+        0x7a => Some(Op::Ishr),
+        0x7c => Some(Op::Iushr),
+        0x7e => Some(Op::Iand),
+        0x80 => Some(Op::Ior),
+        0x82 => Some(Op::Ixor),
+        0x91 => Some(Op::I2b),
+        0x92 => Some(Op::I2c),
+        0x93 => Some(Op::I2s),
+        _ => None,
+    }
+}
+
+/// 0x99 to 0xb1: branches, switches and returns.
+fn plain_control(opcode: u8) -> Option<Op>
+    ensures { result ≡ plain_op (first_row (control opcode)) }
+{
+    match opcode {
+        0xac => Some(Op::Ireturn),
+        0xb0 => Some(Op::Areturn),
+        0xb1 => Some(Op::Return),
+        _ => None,
+    }
+}
+
+/// 0xb2 to 0xc8: fields, methods, objects and monitors, and the extended branches.
+fn plain_reference(opcode: u8) -> Option<Op>
+    ensures { result ≡ plain_op (first_row (references opcode)) }
+{
+    match opcode {
+        0xbe => Some(Op::Arraylength),
+        0xbf => Some(Op::Athrow),
+        0xc2 => Some(Op::Monitorenter),
+        0xc3 => Some(Op::Monitorexit),
+        _ => None,
+    }
+}
+
 impl Op {
+    /// The instruction of an opcode without operands, or `None` where the opcode has operands or is
+    /// none of this machine.
+    pub fn plain(opcode: u8) -> Option<Op>
+        ensures { result ≡ plain_op (form_of opcode) }
+    {
+        if opcode < 0x15 {
+            plain_constant(opcode)
+        } else if opcode < 0x36 {
+            plain_load(opcode)
+        } else if opcode < 0x57 {
+            plain_store(opcode)
+        } else if opcode < 0x60 {
+            plain_stack_move(opcode)
+        } else if opcode < 0x99 {
+            plain_arithmetic(opcode)
+        } else if opcode < 0xb2 {
+            plain_control(opcode)
+        } else {
+            plain_reference(opcode)
+        }
+    }
+
     /// The opcode. The forms that an instruction shares have that of the one whose local stands
     /// beside it: `iload` and `iload_0` are `iload`.
     pub fn opcode(&self) -> u8
