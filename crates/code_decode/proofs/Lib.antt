@@ -1,3 +1,4 @@
 pub mod Switching
 pub mod Sweeping
 pub mod Deciding
+pub mod PlainSteps

@@ -1,8 +1,8 @@
 //! The table of opcodes (JVMS 6.5, in the groups of JVMS 7).
 
-ghost use Rattle.std.specs.Prelude.{◌≡◌, ◌≤◌};
+ghost use Rattle.std.specs.Prelude.{◌≡◌, ◌≤◌, None};
 ghost use Rattle.jvm_types.specs.CodeTable.{form_of, first_row, constants, loads, stores};
-ghost use Rattle.jvm_types.specs.CodeTable.{stack_moves, arithmetic, control, references};
+ghost use Rattle.jvm_types.specs.CodeTable.{arithmetic, control, references, plain_op};
 ghost use Rattle.jvm_types.specs.CodeTable.{Branch as NearBranch, LocalAndStep, IntArray};
 ghost use Rattle.jvm_types.specs.CodeGrammar.{padding_size};
 ghost use Rattle.code_decode.specs.Decoding.{IsDecodeStep};
@@ -22,12 +22,10 @@ fn unknown() -> Result<Found, Stop>
 
 /// 0x00 to 0x13: a constant is pushed.
 fn constants(alloc: Global, opcode: u8, pc: u16, rest: &[u8]) -> Result<Found, Stop>
+    requires { plain_op (first_row (constants opcode)) ≡ None }
     ensures { IsDecodeStep pc (first_row (constants opcode)) rest.now result }
 {
     match opcode {
-        0x00 => plain(alloc, Op::Nop),
-        0x01 => plain(alloc, Op::AconstNull),
-        0x02..=0x08 => plain(alloc, Op::Iconst(i32::from(opcode) - 3)),
         0x10 => sized(
             alloc,
             Op::Bipush(i32::from(read_u1(rest)?.cast_signed())),
@@ -42,44 +40,24 @@ fn constants(alloc: Global, opcode: u8, pc: u16, rest: &[u8]) -> Result<Found, S
 
 /// 0x15 to 0x2e: a local or an element is pushed.
 fn loads(alloc: Global, opcode: u8, pc: u16, rest: &[u8]) -> Result<Found, Stop>
+    requires { plain_op (first_row (loads opcode)) ≡ None }
     ensures { IsDecodeStep pc (first_row (loads opcode)) rest.now result }
 {
     match opcode {
         0x15 => sized(alloc, Op::Iload(u16::from(read_u1(rest)?)), 1),
         0x19 => sized(alloc, Op::Aload(u16::from(read_u1(rest)?)), 1),
-        0x1a..=0x1d => plain(alloc, Op::Iload(u16::from(opcode) - 0x1a)),
-        0x2a..=0x2d => plain(alloc, Op::Aload(u16::from(opcode) - 0x2a)),
-        0x2e => plain(alloc, Op::Iaload),
         _ => unknown(),
     }
 }
 
 /// 0x36 to 0x4f: a local or an element is written.
 fn stores(alloc: Global, opcode: u8, pc: u16, rest: &[u8]) -> Result<Found, Stop>
+    requires { plain_op (first_row (stores opcode)) ≡ None }
     ensures { IsDecodeStep pc (first_row (stores opcode)) rest.now result }
 {
     match opcode {
         0x36 => sized(alloc, Op::Istore(u16::from(read_u1(rest)?)), 1),
         0x3a => sized(alloc, Op::Astore(u16::from(read_u1(rest)?)), 1),
-        0x3b..=0x3e => plain(alloc, Op::Istore(u16::from(opcode) - 0x3b)),
-        0x4b..=0x4e => plain(alloc, Op::Astore(u16::from(opcode) - 0x4b)),
-        0x4f => plain(alloc, Op::Iastore),
-        _ => unknown(),
-    }
-}
-
-/// 0x57 to 0x5f: the stack alone.
-fn stack_moves(alloc: Global, opcode: u8, pc: u16, rest: &[u8]) -> Result<Found, Stop>
-    ensures { IsDecodeStep pc (first_row (stack_moves opcode)) rest.now result }
-{
-    match opcode {
-        0x57 => plain(alloc, Op::Pop),
-        0x58 => plain(alloc, Op::Pop2),
-        0x59 => plain(alloc, Op::Dup),
-        0x5a => plain(alloc, Op::DupX1),
-        0x5b => plain(alloc, Op::DupX2),
-        0x5c => plain(alloc, Op::Dup2),
-        0x5f => plain(alloc, Op::Swap),
         _ => unknown(),
     }
 }
@@ -99,31 +77,18 @@ fn iinc(alloc: Global, pc: u16, rest: &[u8]) -> Result<Found, Stop>
 
 /// 0x60 to 0x93: arithmetic on ints, and conversions of an int.
 fn arithmetic(alloc: Global, opcode: u8, pc: u16, rest: &[u8]) -> Result<Found, Stop>
+    requires { plain_op (first_row (arithmetic opcode)) ≡ None }
     ensures { IsDecodeStep pc (first_row (arithmetic opcode)) rest.now result }
 {
     match opcode {
-        0x60 => plain(alloc, Op::Iadd),
-        0x64 => plain(alloc, Op::Isub),
-        0x68 => plain(alloc, Op::Imul),
-        0x6c => plain(alloc, Op::Idiv),
-        0x70 => plain(alloc, Op::Irem),
-        0x74 => plain(alloc, Op::Ineg),
-        0x78 => plain(alloc, Op::Ishl),
-        0x7a => plain(alloc, Op::Ishr),
-        0x7c => plain(alloc, Op::Iushr),
-        0x7e => plain(alloc, Op::Iand),
-        0x80 => plain(alloc, Op::Ior),
-        0x82 => plain(alloc, Op::Ixor),
         0x84 => iinc(alloc, pc, rest),
-        0x91 => plain(alloc, Op::I2b),
-        0x92 => plain(alloc, Op::I2c),
-        0x93 => plain(alloc, Op::I2s),
         _ => unknown(),
     }
 }
 
 /// 0x99 to 0xb1: branches, switches and returns.
 fn control(alloc: Global, opcode: u8, pc: u16, rest: &[u8]) -> Result<Found, Stop>
+    requires { plain_op (first_row (control opcode)) ≡ None }
     ensures { IsDecodeStep pc (first_row (control opcode)) rest.now result }
 {
     match opcode {
@@ -153,9 +118,6 @@ fn control(alloc: Global, opcode: u8, pc: u16, rest: &[u8]) -> Result<Found, Sto
         }
         0xaa => table(alloc, pc, padding_size(pc), behind(padding_size(pc), rest)),
         0xab => lookup(alloc, pc, padding_size(pc), behind(padding_size(pc), rest)),
-        0xac => plain(alloc, Op::Ireturn),
-        0xb0 => plain(alloc, Op::Areturn),
-        0xb1 => plain(alloc, Op::Return),
         _ => unknown(),
     }
 }
@@ -197,6 +159,7 @@ fn newarray(alloc: Global, pc: u16, rest: &[u8]) -> Result<Found, Stop>
 
 /// 0xb2 to 0xc8: fields, methods, objects and monitors, and the extended branches.
 fn references(alloc: Global, opcode: u8, pc: u16, rest: &[u8]) -> Result<Found, Stop>
+    requires { plain_op (first_row (references opcode)) ≡ None }
     ensures { IsDecodeStep pc (first_row (references opcode)) rest.now result }
 {
     match opcode {
@@ -209,10 +172,6 @@ fn references(alloc: Global, opcode: u8, pc: u16, rest: &[u8]) -> Result<Found, 
         0xb8 => sized(alloc, Op::Invokestatic(read_u2(rest)?), 2),
         0xbb => sized(alloc, Op::New(read_u2(rest)?), 2),
         0xbc => newarray(alloc, pc, rest),
-        0xbe => plain(alloc, Op::Arraylength),
-        0xbf => plain(alloc, Op::Athrow),
-        0xc2 => plain(alloc, Op::Monitorenter),
-        0xc3 => plain(alloc, Op::Monitorexit),
         0xc6 => {
             let way = i32::from(read_s2(rest)?);
             branch(alloc, Op::Ifnull(pc_of(pc, way)), 2, landing(pc, way))
@@ -229,8 +188,9 @@ fn references(alloc: Global, opcode: u8, pc: u16, rest: &[u8]) -> Result<Found, 
     }
 }
 
-/// The instruction at a pc, by its opcode and the bytes behind it.
-pub fn step(alloc: Global, opcode: u8, pc: u16, rest: &[u8]) -> Result<Found, Stop>
+/// The instruction of an opcode that has operands or is not in the table.
+fn with_operands(alloc: Global, opcode: u8, pc: u16, rest: &[u8]) -> Result<Found, Stop>
+    requires { plain_op (form_of opcode) ≡ None }
     ensures { IsDecodeStep pc (form_of opcode) rest.now result }
 {
     if opcode < 0x15 {
@@ -240,12 +200,22 @@ pub fn step(alloc: Global, opcode: u8, pc: u16, rest: &[u8]) -> Result<Found, St
     } else if opcode < 0x57 {
         stores(alloc, opcode, pc, rest)
     } else if opcode < 0x60 {
-        stack_moves(alloc, opcode, pc, rest)
+        unknown()
     } else if opcode < 0x99 {
         arithmetic(alloc, opcode, pc, rest)
     } else if opcode < 0xb2 {
         control(alloc, opcode, pc, rest)
     } else {
         references(alloc, opcode, pc, rest)
+    }
+}
+
+/// The instruction at a pc, by its opcode and the bytes behind it.
+pub fn step(alloc: Global, opcode: u8, pc: u16, rest: &[u8]) -> Result<Found, Stop>
+    ensures { IsDecodeStep pc (form_of opcode) rest.now result }
+{
+    match Op::plain(opcode) {
+        Some(op) => plain(alloc, op),
+        None => with_operands(alloc, opcode, pc, rest),
     }
 }
