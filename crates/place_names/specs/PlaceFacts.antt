@@ -1,14 +1,16 @@
 -- Places of a program, fact by fact: the class, the method, a pc of it and the mnemonic of the
 -- instruction that begins there, and the line of the source that it comes from.
 use Rattle.std.specs.Prelude.{ℕ, List, [], ◌∷◌, ◌++◌, Option, Some, None, slice_get}
+use Rattle.jvm_types.specs.CodeTable.{opcode}
 use Rattle.jvm_types.specs.declared.code.Insn.{Insn}
+use Rattle.jvm_types.specs.declared.code.Op.{Op}
 use Rattle.jvm_types.specs.declared.program.MethodInfo.{MethodInfo}
 use Rattle.jvm_types.specs.declared.program.Program.{Program}
 use Rattle.code_table.specs.PcTables.{number_at}
+use Rattle.mnemonics.specs.Mnemonics.{mnemonic}
 use Rattle.source_lines.specs.Sources.{line_at, source_at}
 use Rattle.source_lines.specs.declared.sources.Sources.{Sources}
-use Rattle.run_texts.specs.MarksText.{class_text}
-use Rattle.place_names.specs.Opcodes.{op_name}
+use Rattle.run_texts.specs.MarksText.{class_text, text_or_none}
 use Rattle.tellings.specs.declared.facts.Fact.{Fact}
 use Rattle.tellings.specs.declared.facts.Fact.TheVariants.{Count, Text}
 use Rattle.tellings.specs.declared.keys.Key.TheVariants as keys
@@ -18,6 +20,10 @@ abbrev pub method_facts : List (List ℕ) → Option MethodInfo → List Fact
 method_facts names None = []
 method_facts names (Some m) =
     Text keys.Class (class_text names m.class) ∷ Text keys.Method (m.name ++ m.descriptor) ∷ []
+
+-- the mnemonic of an instruction
+abbrev pub op_name : Op → List ℕ
+op_name op = text_or_none (mnemonic (opcode op))
 
 abbrev pub insn_facts : Option Insn → List Fact
 insn_facts None = []

@@ -2,15 +2,16 @@
 
 ghost use Rattle.std.specs.Prelude.{◌≡◌, ◌++◌, ◌∷◌, [], Some, option_map, slice_get, OnOk};
 ghost use Rattle.std.specs.Option.{option_copied};
-ghost use Rattle.place_names.specs.PlaceFacts.{insn_at, insn_facts, method_facts, pc_insn_facts};
+ghost use Rattle.place_names.specs.PlaceFacts.{insn_at, insn_facts, method_facts, op_name};
+ghost use Rattle.place_names.specs.PlaceFacts.{pc_insn_facts};
 ghost use Rattle.place_names.specs.PlaceFacts.{place_facts, source_facts_at, source_line_facts};
 ghost use Rattle.run_texts.specs.MarksText.{class_text};
 ghost use Rattle.tellings.specs.declared.facts.Fact.TheVariants.{Text as TextFact};
 ghost use Rattle.tellings.specs.declared.keys.Key.TheVariants.{Class, Method};
 
-use crate::opcodes::op_name;
 use checked_program::Checked;
-use jvm_types::{Insn, MethodInfo, Program, Rows};
+use jvm_types::{Insn, MethodInfo, Op, Program, Rows};
+use mnemonics::mnemonic;
 use run_texts::write_class;
 use source_lines::Sources;
 use std::alloc::{AllocError, Global};
@@ -65,6 +66,16 @@ pub fn add_method(
     match p.methods.get(method as usize) {
         Some(m) => add_names(facts, alloc, p, m),
         None => Ok(()),
+    }
+}
+
+/// The mnemonic of an instruction, as `Op::opcode` names it.
+pub fn op_name(op: &Op) -> &'static str
+    ensures { result.now ≡ op_name op.now }
+{
+    match mnemonic(op.opcode()) {
+        Some(name) => name,
+        None => "",
     }
 }
 

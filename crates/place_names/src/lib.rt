@@ -4,10 +4,8 @@
 
 pub mod facts;
 pub mod names;
-pub mod opcodes;
 pub mod sections;
 
-pub use facts::{add_method, add_pc, add_place, add_source};
+pub use facts::{add_method, add_pc, add_place, add_source, op_name};
 pub use names::Names;
-pub use opcodes::{op_name, opcode};
 pub use sections::{add_mark, add_section_spot, mark_name};
