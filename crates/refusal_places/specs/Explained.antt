@@ -20,7 +20,7 @@ use Rattle.jvm_types.specs.declared.refusal.TheConstants.{NO_METHOD}
 use Rattle.run_texts.specs.Refusal.{refusal_words, rule_text}
 use Rattle.tellings.specs.Forms.{told_in}
 use Rattle.refusal_places.specs.Naming.{class_facts}
-use Rattle.refusal_places.specs.OtherCodes.{opcode_mend}
+use Rattle.refusal_places.specs.OpcodeMends.{opcode_mend}
 use Rattle.refusal_places.specs.Roots.{wrong_root_from}
 use Rattle.refusal_places.specs.Sentences.{instead, means}
 use Rattle.refusal_places.specs.Spots.{spot}

@@ -1,6 +1,6 @@
 pub mod Sentences
 pub mod Spots
-pub mod OtherCodes
+pub mod OpcodeMends
 pub mod Naming
 pub mod Roots
 pub mod Explained

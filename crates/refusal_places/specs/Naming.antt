@@ -2,7 +2,6 @@
 use Rattle.std.specs.Prelude.{ℕ, ◌==◌, nat_le, Bool, ◌&&◌, ◌||◌, not, List, [], ◌∷◌, ◌++◌, drop}
 use Rattle.std.specs.Prelude.{codes, slice_get, Option, Some, None, is_none, if◌then◌else◌}
 use Rattle.std.specs.List.{find}
-use Rattle.std.specs.Option.{option_or}
 use Rattle.std.specs.Fmt.{decimal, signed_decimal}
 use Rattle.jvm_types.specs.ClassNames.{class_name, class_number, class_text_at, text_at}
 use Rattle.jvm_types.specs.Descriptors.{method_signature}
@@ -16,7 +15,6 @@ use Rattle.jvm_types.specs.declared.class_file.Member.{Member}
 use Rattle.source_lines.specs.SourceLines.{first_index, latest_among, source_name}
 use Rattle.source_lines.specs.declared.line_starts.LineStart.{LineStart}
 use Rattle.mnemonics.specs.Mnemonics.{mnemonic}
-use Rattle.refusal_places.specs.OtherCodes.{other_name}
 use Rattle.tellings.specs.declared.facts.Fact.{Fact}
 use Rattle.tellings.specs.declared.facts.Fact.TheVariants.{Text, Count}
 use Rattle.tellings.specs.declared.keys.Key.TheVariants as keys
@@ -89,8 +87,7 @@ pool_entry_at pool (Some i) = slice_get pool i
 unfoldable pub instruction_facts : List Constant → List ℕ → List Fact
 instruction_facts pool [] = []
 instruction_facts pool (opcode ∷ rest) =
-    Text keys.InstructionOf
-    (words_or_opcode opcode (option_or (mnemonic opcode) (other_name opcode)))
+    Text keys.InstructionOf (words_or_opcode opcode (mnemonic opcode))
     ∷ constant_facts pool (pool_entry_at pool (index_in opcode rest))
 
 -- ---- methods and their code

@@ -19,7 +19,7 @@ ghost use Rattle.run_texts.specs.Refusal.{refusal_words};
 ghost use Rattle.tellings.specs.declared.facts.Fact.TheVariants.{Words as the_words};
 
 use crate::naming::{behind, code_bytes, tell_class};
-use crate::other_codes::opcode_mend;
+use crate::opcode_mends::opcode_mend;
 use crate::roots::{Root, is_text, wrong_root};
 use crate::sentences::{instead, means};
 use crate::spots::{Spot, spot_of};

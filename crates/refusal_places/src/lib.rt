@@ -3,7 +3,7 @@
 
 pub mod explaining;
 pub mod naming;
-pub mod other_codes;
+pub mod opcode_mends;
 pub mod roots;
 pub mod sentences;
 pub mod spots;

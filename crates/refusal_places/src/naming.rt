@@ -10,9 +10,6 @@ ghost use Rattle.refusal_places.specs.Naming.{at_field, at_instruction, at_metho
 ghost use Rattle.refusal_places.specs.Naming.{catch_facts, catches_unknown as the_unknown};
 ghost use Rattle.refusal_places.specs.Naming.{class_facts, has_wrong_descriptor as is_wrong_text};
 ghost use Rattle.refusal_places.specs.Naming.{unknown_facts, use_facts};
-ghost use Rattle.refusal_places.specs.OtherCodes.{other_name as the_other_name};
-ghost use Rattle.mnemonics.specs.Mnemonics.{mnemonic as the_mnemonic};
-ghost use Rattle.std.specs.Option.{option_or};
 ghost use Rattle.std.specs.List.{find};
 ghost use Rattle.refusal_places.specs.Naming.{constant_facts, constant_words as the_constant_words};
 ghost use Rattle.refusal_places.specs.Naming.{pool_entry_at as the_entry_at, field_fact};
@@ -23,7 +20,6 @@ ghost use Rattle.refusal_places.specs.Naming.{method_fact, pair_words, pc_facts,
 ghost use Rattle.refusal_places.specs.Naming.{source_facts, spot_facts, words_or_opcode};
 ghost use Rattle.tellings.specs.declared.facts.Fact.TheVariants.{Text};
 
-use crate::other_codes::other_name;
 use crate::spots::Spot;
 use constant_pools::pool_texts::{class_name, class_text_at, text_at};
 use descriptors::{ClassNumbers, method_signature};
@@ -174,16 +170,6 @@ fn entry_at(pool: &Rows<Constant>, index: Option<u16>) -> Option<&Constant>
     }
 }
 
-// The mnemonic of an opcode, where the standard has one.
-fn name_of(opcode: u8) -> Option<&'static str>
-    ensures { option_copied result ≡ option_or (the_mnemonic opcode) (the_other_name opcode) }
-{
-    match mnemonic(opcode) {
-        Some(name) => Some(name),
-        None => other_name(opcode),
-    }
-}
-
 fn tell_opcode(
     facts: &mut Rows<Fact>,
     alloc: Global,
@@ -217,7 +203,7 @@ fn tell_instruction(
     let [opcode, rest @ ..] = code else {
         return Ok(());
     };
-    tell_opcode(facts, alloc, *opcode, name_of(*opcode))?;
+    tell_opcode(facts, alloc, *opcode, mnemonic(*opcode))?;
     tell_constant(facts, alloc, pool, entry_at(pool, index_in(*opcode, rest)))
 }
 
