@@ -6,3 +6,4 @@ pub mod EncodeLaws
 pub mod CodeBuildLaws
 pub mod ClassBuildLaws
 pub mod FitLaws
+pub mod PlainShapes

@@ -1,13 +1,15 @@
 //! The operands of instructions, by their opcodes (JVMS 6.5).
 
-ghost use Rattle.std.specs.Prelude.{◌≡◌, ◌&&◌, ◌∷◌};
+ghost use Rattle.std.specs.Prelude.{◌≡◌, ◌&&◌, ◌∷◌, None};
 ghost use Rattle.std.specs.Option.{option_map};
-ghost use Rattle.jvm_types.specs.CodeTable.{first_row, constants, loads, stores, stack_moves};
-ghost use Rattle.jvm_types.specs.CodeTable.{arithmetic, control, references};
+ghost use Rattle.jvm_types.specs.CodeTable.{form_of, first_row, plain_op, constants, loads};
+ghost use Rattle.jvm_types.specs.CodeTable.{stores, arithmetic, control, references};
 ghost use Rattle.asm_text.specs.Operands.{shape_of, shape_at, is_between, is_u1, is_u2, is_s1};
 ghost use Rattle.asm_text.specs.Operands.{is_s2, is_s4, is_target, are_pairs, bounds_fit};
 ghost use Rattle.asm_text.specs.Operands.{operands_fit};
 ghost use Rattle.std.specs.List.{list_all};
+
+use jvm_types::Op;
 
 /// What operands an instruction has.
 #[derive(Clone, Copy, Debug, PartialEq, Eq)]
@@ -27,10 +29,10 @@ pub enum Shape {
 
 /// 0x00 to 0x13: a constant is pushed.
 fn constants(opcode: u8) -> Option<Shape>
+    requires { plain_op (first_row (constants opcode)) ≡ None }
     ensures { result ≡ option_map shape_of (first_row (constants opcode)) }
 {
     match opcode {
-        0x00..=0x08 => Some(Shape::Plain),
         0x10 => Some(Shape::SignedByte),
         0x11 => Some(Shape::SignedShort),
         0x12 => Some(Shape::Byte),
@@ -41,78 +43,67 @@ fn constants(opcode: u8) -> Option<Shape>
 
 /// 0x15 to 0x2e: a local or an element is pushed.
 fn loads(opcode: u8) -> Option<Shape>
+    requires { plain_op (first_row (loads opcode)) ≡ None }
     ensures { result ≡ option_map shape_of (first_row (loads opcode)) }
 {
     match opcode {
         0x15 | 0x19 => Some(Shape::Byte),
-        0x1a..=0x1d | 0x2a..=0x2e => Some(Shape::Plain),
         _ => None,
     }
 }
 
 /// 0x36 to 0x4f: a local or an element is written.
 fn stores(opcode: u8) -> Option<Shape>
+    requires { plain_op (first_row (stores opcode)) ≡ None }
     ensures { result ≡ option_map shape_of (first_row (stores opcode)) }
 {
     match opcode {
         0x36 | 0x3a => Some(Shape::Byte),
-        0x3b..=0x3e | 0x4b..=0x4f => Some(Shape::Plain),
-        _ => None,
-    }
-}
-
-/// 0x57 to 0x5f: the stack alone.
-fn stack_moves(opcode: u8) -> Option<Shape>
-    ensures { result ≡ option_map shape_of (first_row (stack_moves opcode)) }
-{
-    match opcode {
-        0x57..=0x5c | 0x5f => Some(Shape::Plain),
         _ => None,
     }
 }
 
 /// 0x60 to 0x93: arithmetic on ints, and conversions of an int.
 fn arithmetic(opcode: u8) -> Option<Shape>
+    requires { plain_op (first_row (arithmetic opcode)) ≡ None }
     ensures { result ≡ option_map shape_of (first_row (arithmetic opcode)) }
 {
     match opcode {
-        0x60 | 0x64 | 0x68 | 0x6c | 0x70 | 0x74 => Some(Shape::Plain),
-        0x78 | 0x7a | 0x7c | 0x7e | 0x80 | 0x82 => Some(Shape::Plain),
         0x84 => Some(Shape::LocalAndStep),
-        0x91..=0x93 => Some(Shape::Plain),
         _ => None,
     }
 }
 
 /// 0x99 to 0xb1: branches, switches and returns.
 fn control(opcode: u8) -> Option<Shape>
+    requires { plain_op (first_row (control opcode)) ≡ None }
     ensures { result ≡ option_map shape_of (first_row (control opcode)) }
 {
     match opcode {
         0x99..=0xa7 => Some(Shape::Branch),
         0xaa => Some(Shape::Table),
         0xab => Some(Shape::Lookup),
-        0xac | 0xb0 | 0xb1 => Some(Shape::Plain),
         _ => None,
     }
 }
 
 /// 0xb2 to 0xc8: fields, methods, objects and monitors, and the extended branches.
 fn references(opcode: u8) -> Option<Shape>
+    requires { plain_op (first_row (references opcode)) ≡ None }
     ensures { result ≡ option_map shape_of (first_row (references opcode)) }
 {
     match opcode {
         0xb2..=0xb8 | 0xbb => Some(Shape::Short),
         0xbc => Some(Shape::IntArray),
-        0xbe | 0xbf | 0xc2 | 0xc3 => Some(Shape::Plain),
         0xc6 | 0xc7 => Some(Shape::Branch),
         0xc8 => Some(Shape::WideBranch),
         _ => None,
     }
 }
 
-/// The operands of an opcode, or `None` where it is none of this machine.
-pub fn shape_at(opcode: u8) -> Option<Shape>
+/// Of an opcode that has operands or is none of this machine.
+fn shape_with_operands(opcode: u8) -> Option<Shape>
+    requires { plain_op (form_of opcode) ≡ None }
     ensures { result ≡ shape_at opcode }
 {
     if opcode < 0x15 {
@@ -122,13 +113,23 @@ pub fn shape_at(opcode: u8) -> Option<Shape>
     } else if opcode < 0x57 {
         stores(opcode)
     } else if opcode < 0x60 {
-        stack_moves(opcode)
+        None
     } else if opcode < 0x99 {
         arithmetic(opcode)
     } else if opcode < 0xb2 {
         control(opcode)
     } else {
         references(opcode)
+    }
+}
+
+/// The operands of an opcode, or `None` where it is none of this machine.
+pub fn shape_at(opcode: u8) -> Option<Shape>
+    ensures { result ≡ shape_at opcode }
+{
+    match Op::plain(opcode) {
+        Some(_) => Some(Shape::Plain),
+        None => shape_with_operands(opcode),
     }
 }
 
