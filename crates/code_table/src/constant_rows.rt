@@ -1,6 +1,6 @@
 //! Rows of instructions that hang on what a constant names.
 
-ghost use Rattle.std.specs.Prelude.{◌≡◌, ◌∷◌, [], map, reverse, Some, None, IfOk};
+ghost use Rattle.std.specs.Prelude.{◌≡◌, ◌<◌, ◌∷◌, [], length, map, reverse, Some, None, IfOk};
 ghost use Rattle.std.specs.Option.{option_copied};
 ghost use Rattle.jvm_types.specs.CodeTable.{stack_row, type_of, want_of, arguments, result_of};
 ghost use Rattle.jvm_types.specs.CodeTable.{is_init, no_row, get_static_row, get_row, put_row};
@@ -217,5 +217,48 @@ pub fn constant_row(
         Target::Wait | Target::Notify | Target::NotifyAll => {
             stack_row(alloc, &[Want::AnObject(OBJECT_CLASS)], &[])
         }
+    }
+}
+
+/// How many values an instruction takes that names a method.
+fn method_takes(p: &Program, pc: u32, number: u32, op: &Op) -> usize
+    requires { length (constant_row p.now pc (targets.Method number) op.now).takes < 65536 }
+    ensures { result ≡ length (constant_row p.now pc (targets.Method number) op.now).takes }
+{
+    let Some(called) = p.methods.get(number as usize) else {
+        return 0;
+    };
+    match op {
+        Op::Invokevirtual(_) | Op::Invokespecial(_) => called.args.len() + 1,
+        Op::Invokestatic(_) => called.args.len(),
+        _ => 0,
+    }
+}
+
+/// How many values an instruction takes that names a field.
+fn field_takes(p: &Program, pc: u32, number: u32, op: &Op) -> usize
+    ensures { result ≡ length (constant_row p.now pc (targets.Field number) op.now).takes }
+{
+    if p.fields.get(number as usize).is_none() {
+        return 0;
+    }
+    match op {
+        Op::Putstatic(_) | Op::Getfield(_) => 1,
+        Op::Putfield(_) => 2,
+        _ => 0,
+    }
+}
+
+/// How many values an instruction with a constant takes, by what that names.
+pub fn constant_takes(p: &Program, pc: u32, target: Target, op: &Op) -> usize
+    requires { length (constant_row p.now pc target op.now).takes < 65536 }
+    ensures { result ≡ length (constant_row p.now pc target op.now).takes }
+{
+    match target {
+        Target::Nothing | Target::Value(_) | Target::Class(_) | Target::Out => 0,
+        Target::Field(number) => field_takes(p, pc, number, op),
+        Target::Method(number) => method_takes(p, pc, number, op),
+        Target::Init(_) | Target::Wait | Target::Notify | Target::NotifyAll => 1,
+        Target::Println => 2,
     }
 }

@@ -18,7 +18,7 @@ pub use class_tree::{common_ancestor, is_subclass};
 pub use constant_rows::{is_init, type_of};
 pub use indexed_method::IndexedMethod;
 pub use number_laws::numbers_are_exact;
-pub use op_rows::row;
+pub use op_rows::{row, takes};
 pub use pc_table::PcTable;
 pub use row_moves::{Making, Types, stack_after, value_of, write_local};
 pub use type_order::{is_below, is_new, is_uninitialised, meet, same_type};

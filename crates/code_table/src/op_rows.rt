@@ -1,9 +1,9 @@
-//! The table of instructions: the row of each.
+//! The table of instructions: the row of each, and how many values it takes.
 
-ghost use Rattle.std.specs.Prelude.{◌≡◌, IfOk};
+ghost use Rattle.std.specs.Prelude.{◌≡◌, ◌<◌, length, IfOk};
 ghost use Rattle.jvm_types.specs.CodeTable.{row};
 
-use crate::constant_rows::{constant_row, returned};
+use crate::constant_rows::{constant_row, constant_takes, returned};
 use crate::row_forms::{AN_INT, load_row, stack_row, store_row};
 use jvm_types::class_numbers::{INT_ARRAY_CLASS, OBJECT_CLASS, THROWABLE_CLASS};
 use jvm_types::{Given, MethodInfo, Op, OpRow, Program, Rows, Target, VType, Want};
@@ -91,5 +91,75 @@ pub fn row(
         | Op::Invokespecial(_)
         | Op::Invokestatic(_)
         | Op::New(_) => constant_row(alloc, p, pc, target, op),
+    }
+}
+
+/// How many values the row of an instruction takes from the stack.
+pub fn takes(m: &MethodInfo, p: &Program, pc: u32, target: Target, op: &Op) -> usize
+    requires { length (row p.now m.now pc target op.now).takes < 65536 }
+    ensures { result ≡ length (row p.now m.now pc target op.now).takes }
+{
+    match op {
+        Op::Nop
+        | Op::AconstNull
+        | Op::Iconst(_)
+        | Op::Bipush(_)
+        | Op::Sipush(_)
+        | Op::Iload(_)
+        | Op::Aload(_)
+        | Op::Iinc(_, _)
+        | Op::Goto(_)
+        | Op::GotoW(_)
+        | Op::Return => 0,
+        Op::Istore(_)
+        | Op::Astore(_)
+        | Op::Pop
+        | Op::Dup
+        | Op::Ineg
+        | Op::I2b
+        | Op::I2c
+        | Op::I2s
+        | Op::If(_, _)
+        | Op::Ifnull(_)
+        | Op::Ifnonnull(_)
+        | Op::Tableswitch { .. }
+        | Op::Lookupswitch { .. }
+        | Op::Ireturn
+        | Op::Areturn
+        | Op::Newarray
+        | Op::Arraylength
+        | Op::Athrow
+        | Op::Monitorenter
+        | Op::Monitorexit => 1,
+        Op::Iaload
+        | Op::Pop2
+        | Op::DupX1
+        | Op::Dup2
+        | Op::Swap
+        | Op::Iadd
+        | Op::Isub
+        | Op::Imul
+        | Op::Idiv
+        | Op::Irem
+        | Op::Ishl
+        | Op::Ishr
+        | Op::Iushr
+        | Op::Iand
+        | Op::Ior
+        | Op::Ixor
+        | Op::IfIcmp(_, _)
+        | Op::IfAcmpeq(_)
+        | Op::IfAcmpne(_) => 2,
+        Op::Iastore | Op::DupX2 => 3,
+        Op::Ldc(_)
+        | Op::LdcW(_)
+        | Op::Getstatic(_)
+        | Op::Putstatic(_)
+        | Op::Getfield(_)
+        | Op::Putfield(_)
+        | Op::Invokevirtual(_)
+        | Op::Invokespecial(_)
+        | Op::Invokestatic(_)
+        | Op::New(_) => constant_takes(p, pc, target, op),
     }
 }
