@@ -1,6 +1,6 @@
 -- Numbers of instructions by their pcs.
 use Rattle.std.proofs.Common.{◌≡◌, ◌≢◌, ℕ, zero, suc, ◌+◌, ◌-◌, ◌<◌, ◌≤◌, ◌⊎◌, inl, inr, Bool, true, false, List, [], ◌∷◌, length, take, replicate, Option, Some, None, refl, sym, ◌∙◌, subst, arith, ◌==◌, ◌||◌, if◌then◌else◌, slice_get, slice_set, slice_index_or}
-use Rattle.std.{specs.{List.{list_any, AllByRecursion}, Option.{option_map, is_some}}, proofs.lemmas.{Bool.{cases_eq, eq-eqb, ne_eqb, Decides.nat_tests}, List.{get_or-set_same, get_or-set_other}}}
+use Rattle.std.{specs.{List.{list_any, AllByRecursion}, Option.{option_map, is_some}}, proofs.lemmas.{Bool.{cases_eq, eq-eqb, ne_eqb}, List.{get_or-set_same, get_or-set_other}}}
 use Rattle.jvm_types.specs.declared.code.Insn.{Insn}
 use Rattle.code_table.specs.PcTables.{number_at, Ascend, IsPcTable}
 

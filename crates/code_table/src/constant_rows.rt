@@ -1,6 +1,6 @@
 //! Rows of instructions that hang on what a constant names.
 
-ghost use Rattle.std.specs.Prelude.{◌≡◌, ◌<◌, ◌∷◌, [], length, map, reverse, Some, None, IfOk};
+ghost use Rattle.std.specs.Prelude.{◌≡◌, ◌∷◌, [], length, map, reverse, Some, None, IfOk};
 ghost use Rattle.std.specs.Option.{option_copied};
 ghost use Rattle.jvm_types.specs.CodeTable.{stack_row, type_of, want_of, arguments, result_of};
 ghost use Rattle.jvm_types.specs.CodeTable.{is_init, no_row, get_static_row, get_row, put_row};
@@ -222,14 +222,13 @@ pub fn constant_row(
 
 /// How many values an instruction takes that names a method.
 fn method_takes(p: &Program, pc: u32, number: u32, op: &Op) -> usize
-    requires { length (constant_row p.now pc (targets.Method number) op.now).takes < 65536 }
     ensures { result ≡ length (constant_row p.now pc (targets.Method number) op.now).takes }
 {
     let Some(called) = p.methods.get(number as usize) else {
         return 0;
     };
     match op {
-        Op::Invokevirtual(_) | Op::Invokespecial(_) => called.args.len() + 1,
+        Op::Invokevirtual(_) | Op::Invokespecial(_) => called.args.as_slice().len() + 1,
         Op::Invokestatic(_) => called.args.len(),
         _ => 0,
     }
@@ -251,7 +250,6 @@ fn field_takes(p: &Program, pc: u32, number: u32, op: &Op) -> usize
 
 /// How many values an instruction with a constant takes, by what that names.
 pub fn constant_takes(p: &Program, pc: u32, target: Target, op: &Op) -> usize
-    requires { length (constant_row p.now pc target op.now).takes < 65536 }
     ensures { result ≡ length (constant_row p.now pc target op.now).takes }
 {
     match target {

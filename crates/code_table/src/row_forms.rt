@@ -1,10 +1,70 @@
-//! The forms that most rows have.
+//! The forms that rows have.
 
-ghost use Rattle.std.specs.Prelude.{◌≡◌, IfOk};
+ghost use Rattle.std.specs.Prelude.{◌≡◌, length, IfOk};
 ghost use Rattle.jvm_types.specs.CodeTable.{no_row, stack_row, load_row, store_row};
+ghost use Rattle.code_table.specs.RowForms.{wants};
 
 use jvm_types::{Given, OpRow, Rows, VType, Want};
 use std::alloc::{AllocError, Global};
+
+/// What is taken from the stack, with the top first.
+#[derive(Clone, Copy)]
+pub enum Takes {
+    Nothing,
+    One(Want),
+    Two(Want, Want),
+    Three(Want, Want, Want),
+}
+
+impl Takes {
+    /// How many values these are.
+    #[inline(always)]
+    pub fn count(self) -> u16
+        ensures { result ≡ length (wants self) }
+    {
+        match self {
+            Takes::Nothing => 0,
+            Takes::One(_) => 1,
+            Takes::Two(_, _) => 2,
+            Takes::Three(_, _, _) => 3,
+        }
+    }
+
+    /// What is asked of these values.
+    pub fn wants(self, alloc: Global) -> Result<Rows<Want>, AllocError>
+        ensures { IfOk result (λ asked. asked ≡ wants self) }
+    {
+        match self {
+            Takes::Nothing => Ok(Rows::new(alloc)),
+            Takes::One(top) => Rows::from_slice(alloc, &[top]),
+            Takes::Two(top, second) => Rows::from_slice(alloc, &[top, second]),
+            Takes::Three(top, second, third) => Rows::from_slice(alloc, &[top, second, third]),
+        }
+    }
+}
+
+/// The form of a row. Those without a local read and write none.
+#[derive(Clone, Copy)]
+pub enum RowForm {
+    /// Nothing comes in the place of what is taken.
+    Leaves(Takes),
+    /// A value of the instruction's own comes in its place.
+    Makes(Takes, VType),
+    /// A local is pushed.
+    Loads(u16, Want),
+    /// The top of the stack goes to a local.
+    Stores(u16, Want),
+    /// A local gets an int of the instruction's own.
+    Adds(u16),
+    /// The values on top again, in another order.
+    Dup,
+    DupX1,
+    DupX2,
+    Dup2,
+    Swap,
+    /// By what a constant names.
+    Named,
+}
 
 /// An int that an instruction makes.
 pub const AN_INT: Given = Given::Fresh(VType::Int);
@@ -27,6 +87,18 @@ pub fn stack_row(alloc: Global, takes: &[Want], gives: &[Given]) -> Result<OpRow
 {
     Ok(OpRow {
         takes: Rows::from_slice(alloc, takes)?,
+        gives: Rows::from_slice(alloc, gives)?,
+        reads: None,
+        writes: None,
+    })
+}
+
+/// The row that takes these values, and reads and writes no local.
+pub fn made_row(alloc: Global, takes: Takes, gives: &[Given]) -> Result<OpRow, AllocError>
+    ensures { IfOk result (λ r. r ≡ stack_row (wants takes) gives.now) }
+{
+    Ok(OpRow {
+        takes: takes.wants(alloc)?,
         gives: Rows::from_slice(alloc, gives)?,
         reads: None,
         writes: None,
