@@ -21,18 +21,18 @@ wants (Two top second) = top ∷ second ∷ []
 wants (Three top second third) = top ∷ second ∷ third ∷ []
 
 -- the row of an instruction that has the form, at a pc, with what its constant names
-abbrev pub row_of : RowForm → Program → ℕ → Target → Op → OpRow
-row_of (forms.Leaves takes) p pc target op = stack_row (wants takes) []
-row_of (forms.Makes takes type) p pc target op = stack_row (wants takes) (Fresh type ∷ [])
-row_of (forms.Loads i want) p pc target op = load_row i want
-row_of (forms.Stores i want) p pc target op = store_row i want
-row_of (forms.Adds i) p pc target op =
+abbrev pub formed_row : RowForm → Program → ℕ → Target → Op → OpRow
+formed_row (forms.Leaves takes) p pc target op = stack_row (wants takes) []
+formed_row (forms.Makes takes type) p pc target op = stack_row (wants takes) (Fresh type ∷ [])
+formed_row (forms.Loads i want) p pc target op = load_row i want
+formed_row (forms.Stores i want) p pc target op = store_row i want
+formed_row (forms.Adds i) p pc target op =
     record { takes = []; gives = []; reads = Some (i, AnInt); writes = Some (i, an_int) }
-row_of forms.Dup p pc target op = stack_row (any_values 1) (Taken 0 ∷ Taken 0 ∷ [])
-row_of forms.DupX1 p pc target op = stack_row (any_values 2) (Taken 0 ∷ Taken 1 ∷ Taken 0 ∷ [])
-row_of forms.DupX2 p pc target op =
+formed_row forms.Dup p pc target op = stack_row (any_values 1) (Taken 0 ∷ Taken 0 ∷ [])
+formed_row forms.DupX1 p pc target op = stack_row (any_values 2) (Taken 0 ∷ Taken 1 ∷ Taken 0 ∷ [])
+formed_row forms.DupX2 p pc target op =
     stack_row (any_values 3) (Taken 0 ∷ Taken 1 ∷ Taken 2 ∷ Taken 0 ∷ [])
-row_of forms.Dup2 p pc target op =
+formed_row forms.Dup2 p pc target op =
     stack_row (any_values 2) (Taken 0 ∷ Taken 1 ∷ Taken 0 ∷ Taken 1 ∷ [])
-row_of forms.Swap p pc target op = stack_row (any_values 2) (Taken 1 ∷ Taken 0 ∷ [])
-row_of forms.Named p pc target op = constant_row p pc target op
+formed_row forms.Swap p pc target op = stack_row (any_values 2) (Taken 1 ∷ Taken 0 ∷ [])
+formed_row forms.Named p pc target op = constant_row p pc target op

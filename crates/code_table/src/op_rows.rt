@@ -5,7 +5,7 @@ ghost use Rattle.std.specs.Prelude.{◌≡◌, ℕ, length, IfOk};
 ghost use Rattle.jvm_types.specs.CodeTable.{row};
 ghost use Rattle.jvm_types.specs.declared.program.Program.{Program};
 ghost use Rattle.jvm_types.specs.declared.program.Target.{Target};
-ghost use Rattle.code_table.specs.RowForms.{row_of};
+ghost use Rattle.code_table.specs.RowForms.{formed_row};
 
 use crate::constant_rows::{constant_row, constant_takes, returned};
 use crate::row_forms::{AN_INT, RowForm, Takes, load_row, made_row, stack_row, store_row};
@@ -33,7 +33,7 @@ const THIRD: Given = Given::Taken(2);
 #[inline(always)]
 pub fn form(m: &MethodInfo, op: &Op) -> RowForm
     ensures { (p : Program) (pc : ℕ) (target : Target)
-        → row_of result p pc target op.now ≡ row p m.now pc target op.now }
+        → formed_row result p pc target op.now ≡ row p m.now pc target op.now }
 {
     match op {
         Op::Nop | Op::Goto(_) | Op::GotoW(_) | Op::Return => RowForm::Leaves(Takes::Nothing),
@@ -91,7 +91,7 @@ pub fn form(m: &MethodInfo, op: &Op) -> RowForm
 }
 
 /// The row of an instruction by its form.
-fn row_of(
+fn formed_row(
     alloc: Global,
     form: RowForm,
     p: &Program,
@@ -99,7 +99,7 @@ fn row_of(
     target: Target,
     op: &Op,
 ) -> Result<OpRow, AllocError>
-    ensures { IfOk result (λ r. r ≡ row_of form p.now pc target op.now) }
+    ensures { IfOk result (λ r. r ≡ formed_row form p.now pc target op.now) }
 {
     match form {
         RowForm::Leaves(takes) => made_row(alloc, takes, &[]),
@@ -133,12 +133,12 @@ pub fn row(
     ensures { IfOk result (λ r. r ≡ row p.now m.now pc target op.now) }
 {
     let form = form(m, op);
-    row_of(alloc, form, p, pc, target, op)
+    formed_row(alloc, form, p, pc, target, op)
 }
 
 /// How many values an instruction takes from the stack, by the form of its row.
 fn takes_by(form: RowForm, p: &Program, pc: u32, target: Target, op: &Op) -> usize
-    ensures { result ≡ length (row_of form p.now pc target op.now).takes }
+    ensures { result ≡ length (formed_row form p.now pc target op.now).takes }
 {
     match form {
         RowForm::Leaves(takes) | RowForm::Makes(takes, _) => takes.count() as usize,

@@ -3,10 +3,12 @@
 ghost use Rattle.std.specs.Prelude.{◌≡◌, ◌<◌, ◌≤◌, ◌+◌, ◌-◌, ◌∷◌, ◌++◌, length, drop, map};
 ghost use Rattle.jvm_types.specs.CodeTable.{row, constant_row, result_of, value_of};
 ghost use Rattle.jvm_types.specs.declared.program.Target.TheVariants as targets;
+ghost use Rattle.code_table.specs.RowForms.{formed_row};
 ghost use Rattle.frames.specs.FrameLists.{top, max_stack};
 ghost use Rattle.laws_threads.specs.Allowed.{HasLocal};
 ghost use Rattle.instr_steps.specs.Going.{HasRoom, HasTaken, frame_went, stack_went};
 
+use code_table::{RowForm, form};
 use frames::ThreadState;
 use jvm_types::{MethodInfo, Op, Program, Target};
 
@@ -157,6 +159,85 @@ fn went_with_constant(
 }
 
 /// The top frame goes on at a pc behind an instruction, which makes this value, where it makes one.
+/// By the form of the instruction's row.
+#[inline(always)]
+fn went_by(
+    s: &mut ThreadState,
+    form: RowForm,
+    p: &Program,
+    pc: u32,
+    target: Target,
+    op: &Op,
+    to: u32,
+    made: u64,
+)
+    requires frame { 0 < length s.old.frames }
+    requires taken { HasTaken (formed_row form p.now pc target op.now) (top s.old.frames) }
+    requires room { HasRoom (formed_row form p.now pc target op.now) (top s.old.frames)
+        (max_stack s.old.program.program (top s.old.frames).method) }
+    requires reads { HasLocal (formed_row form p.now pc target op.now).reads
+        (top s.old.frames).locals }
+    requires writes { HasLocal (formed_row form p.now pc target op.now).writes
+        (top s.old.frames).locals }
+    requires short { length (top s.old.frames).stack < 65536 }
+    ensures { s.new ≡ frame_went (formed_row form p.now pc target op.now) to made s.old }
+{
+    match form {
+        RowForm::Leaves(taken) => take(s, taken.count(), to),
+        RowForm::Makes(taken, _) => replace(s, taken.count(), made, to),
+        RowForm::Loads(i, _) => {
+            let value = s.local(i);
+            replace(s, 0, value, to);
+        }
+        RowForm::Stores(i, _) => {
+            let value = s.value(0);
+            s.set_local(i, value);
+            take(s, 1, to);
+        }
+        RowForm::Adds(i) => {
+            s.set_local(i, made);
+            s.set_pc(to);
+        }
+        RowForm::Dup => {
+            let first = s.value(0);
+            replace(s, 1, first, to);
+            s.push_value(first);
+        }
+        RowForm::DupX1 => {
+            let first = s.value(0);
+            let second = s.value(1);
+            replace(s, 2, first, to);
+            s.push_value(second);
+            s.push_value(first);
+        }
+        RowForm::DupX2 => {
+            let first = s.value(0);
+            let second = s.value(1);
+            let third = s.value(2);
+            replace(s, 3, first, to);
+            s.push_value(third);
+            s.push_value(second);
+            s.push_value(first);
+        }
+        RowForm::Dup2 => {
+            let first = s.value(0);
+            let second = s.value(1);
+            replace(s, 2, second, to);
+            s.push_value(first);
+            s.push_value(second);
+            s.push_value(first);
+        }
+        RowForm::Swap => {
+            let upper = s.value(0);
+            let lower = s.value(1);
+            replace(s, 2, upper, to);
+            s.push_value(lower);
+        }
+        RowForm::Named => went_with_constant(s, p, pc, target, op, to, made),
+    }
+}
+
+/// The same by the instruction and its method.
 #[inline(always)]
 pub fn went(
     s: &mut ThreadState,
@@ -177,94 +258,6 @@ pub fn went(
     requires short { length (top s.old.frames).stack < 65536 }
     ensures { s.new ≡ frame_went (row p.now m.now pc target op.now) to made s.old }
 {
-    match op {
-        Op::Nop | Op::Goto(_) | Op::GotoW(_) | Op::Return => s.set_pc(to),
-        Op::AconstNull | Op::Iconst(_) | Op::Bipush(_) | Op::Sipush(_) => replace(s, 0, made, to),
-        Op::Iload(i) | Op::Aload(i) => {
-            let value = s.local(*i);
-            replace(s, 0, value, to);
-        }
-        Op::Istore(i) | Op::Astore(i) => {
-            let value = s.value(0);
-            s.set_local(*i, value);
-            take(s, 1, to);
-        }
-        Op::Iinc(i, _) => {
-            s.set_local(*i, made);
-            s.set_pc(to);
-        }
-        Op::Pop
-        | Op::If(_, _)
-        | Op::Ifnull(_)
-        | Op::Ifnonnull(_)
-        | Op::Tableswitch { .. }
-        | Op::Lookupswitch { .. }
-        | Op::Ireturn
-        | Op::Areturn
-        | Op::Athrow
-        | Op::Monitorenter
-        | Op::Monitorexit => take(s, 1, to),
-        Op::Pop2 | Op::IfIcmp(_, _) | Op::IfAcmpeq(_) | Op::IfAcmpne(_) => take(s, 2, to),
-        Op::Iastore => take(s, 3, to),
-        Op::Ineg | Op::I2b | Op::I2c | Op::I2s | Op::Newarray | Op::Arraylength => {
-            replace(s, 1, made, to)
-        }
-        Op::Iaload
-        | Op::Iadd
-        | Op::Isub
-        | Op::Imul
-        | Op::Idiv
-        | Op::Irem
-        | Op::Ishl
-        | Op::Ishr
-        | Op::Iushr
-        | Op::Iand
-        | Op::Ior
-        | Op::Ixor => replace(s, 2, made, to),
-        Op::Dup => {
-            let first = s.value(0);
-            replace(s, 1, first, to);
-            s.push_value(first);
-        }
-        Op::DupX1 => {
-            let first = s.value(0);
-            let second = s.value(1);
-            replace(s, 2, first, to);
-            s.push_value(second);
-            s.push_value(first);
-        }
-        Op::DupX2 => {
-            let first = s.value(0);
-            let second = s.value(1);
-            let third = s.value(2);
-            replace(s, 3, first, to);
-            s.push_value(third);
-            s.push_value(second);
-            s.push_value(first);
-        }
-        Op::Dup2 => {
-            let first = s.value(0);
-            let second = s.value(1);
-            replace(s, 2, second, to);
-            s.push_value(first);
-            s.push_value(second);
-            s.push_value(first);
-        }
-        Op::Swap => {
-            let upper = s.value(0);
-            let lower = s.value(1);
-            replace(s, 2, upper, to);
-            s.push_value(lower);
-        }
-        Op::Ldc(_)
-        | Op::LdcW(_)
-        | Op::Getstatic(_)
-        | Op::Putstatic(_)
-        | Op::Getfield(_)
-        | Op::Putfield(_)
-        | Op::Invokevirtual(_)
-        | Op::Invokespecial(_)
-        | Op::Invokestatic(_)
-        | Op::New(_) => went_with_constant(s, p, pc, target, op, to, made),
-    }
+    let form = form(m, op);
+    went_by(s, form, p, pc, target, op, to, made);
 }

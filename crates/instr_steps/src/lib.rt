@@ -14,7 +14,6 @@ mod objects;
 mod phases;
 mod places;
 mod running;
-mod taking;
 
 pub use calls::given_back;
 pub use did::Did;

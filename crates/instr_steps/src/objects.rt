@@ -1,7 +1,7 @@
 //! Elements of arrays, new objects, thrown objects and prints.
 
 ghost use Rattle.std.specs.Prelude.{◌≡◌, ◌<◌, ◌≤◌, ◌^◌, length, option_map};
-ghost use Rattle.machine_types.specs.Frames.{frames_of, making, went_on};
+ghost use Rattle.machine_types.specs.Frames.{frames_of, making, top_row, went_on};
 ghost use Rattle.machine_types.specs.Going.{goes_on, goes_on_if};
 ghost use Rattle.machine_types.specs.Instructions.{did, has_print_left, indexed, made};
 ghost use Rattle.machine_types.specs.Ints.{low, int_of};
@@ -13,8 +13,8 @@ ghost use Rattle.instr_steps.specs.Places.{CanGo, IsTopAt, at_place};
 
 use crate::moves::{go_on, throw};
 use crate::places::Place;
-use crate::taking::takes;
 use checked_program::Checked;
+use code_table::takes;
 use frames::ThreadState;
 use heap_words::{header_class, header_length, place as value_word, thrown_of};
 use jvm_types::{End, Print, Thrown};
@@ -89,6 +89,19 @@ pub fn raise(s: &mut ThreadState, p: &Checked, place: &Place, x: u64, got: u64)
     }
 }
 
+/// How many values the instruction at which the top frame stands takes from its stack.
+fn top_takes(s: &ThreadState, p: &Checked, place: &Place) -> u16
+    requires stands { IsTopAt p.now.program s.now.frames place.now }
+    requires row { CanGo p.now.program s.now.frames place.now }
+    ensures { result ≡ length (top_row p.now.program (at_place s.now.frames place.now)).takes }
+{
+    let m = place.method();
+    // a stack has fewer values than a `u16` counts
+    let _most = m.max_stack;
+    let insn = place.insn();
+    takes(p.program(), m, insn.pc, place.target(), &insn.op) as u16
+}
+
 /// A new object at the word that was free, where the heap has room for it.
 pub fn make(s: &mut ThreadState, p: &Checked, place: &Place, word: u64, size: u64, free: u64)
     requires program { p.now ≡ s.old.program }
@@ -98,7 +111,7 @@ pub fn make(s: &mut ThreadState, p: &Checked, place: &Place, word: u64, size: u6
 {
     let heap = p.heap() as u64;
     if size <= heap && free <= heap - size {
-        let count = takes(s, p, place);
+        let count = top_takes(s, p, place);
         s.drop_values(count);
         s.set_pc(place.insn().next);
         s.set_phase(Phase::Made(free as u32, word));
