@@ -2,13 +2,14 @@
 use Rattle.std.proofs.Common.{refl}
 use Rattle.jvm_types.specs.ClassTree.{is_subclass}
 use Rattle.machine_plays.proofs.Playing.{Plays}
+use Rattle.machine_plays.specs.WorkedInstructions as instructions
 use Rattle.machine_plays.specs.WorkedRuns as runs
 
-pub ints_compute : Plays runs.ints_compute
+pub ints_compute : Plays instructions.ints_compute
 unfolding is_subclass
 ints_compute = refl
 
-pub moves_go : Plays runs.moves_go
+pub moves_go : Plays instructions.moves_go
 unfolding is_subclass
 moves_go = refl
 

@@ -5,3 +5,4 @@ pub mod WorkedWaits
 pub mod WorkedClasses
 pub mod WorkedRuns
 pub mod Occurring
+pub mod WorkedInstructions

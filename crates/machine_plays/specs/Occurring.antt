@@ -1,6 +1,10 @@
 -- Which phases and which instructions occur in worked runs.
-use Rattle.std.specs.Prelude.{◌≡◌, ℕ, zero, suc, true, false, Bool, List, [], ◌∷◌, map, replicate}
-use Rattle.std.specs.Prelude.{slice_get, slice_set, Option, Some, None}
+use Rattle.std.specs.Prelude.{◌≡◌, ◌==◌, ℕ, zero, suc, pos, true, false, Bool, List, [], ◌∷◌, map}
+use Rattle.std.specs.Prelude.{replicate, slice_get, slice_set, Option, Some, None}
+use Rattle.jvm_types.specs.CodeTable.{opcode, form_of, Form, Plain, Byte, Short, SignedByte}
+use Rattle.jvm_types.specs.CodeTable.{SignedShort, Branch, WideBranch, LocalAndStep, IntArray}
+use Rattle.jvm_types.specs.CodeTable.{Table, Lookup}
+use Rattle.jvm_types.specs.declared.code.Cmp.TheVariants.{Eq}
 use Rattle.jvm_types.specs.declared.code.Op.{Op}
 use Rattle.jvm_types.specs.declared.code.Op.TheVariants as ops
 use Rattle.checked_program.specs.MarkedProgram.{MarkedProgram}
@@ -12,6 +16,7 @@ use Rattle.machine_types.specs.declared.phase.Phase.{Phase}
 use Rattle.machine_types.specs.declared.phase.Phase.TheVariants as phases
 use Rattle.machine_plays.specs.WorkedRuns.{Run, first_state, most_events}
 use Rattle.machine_plays.specs.WorkedRuns as runs
+use Rattle.machine_plays.specs.WorkedInstructions as instructions
 
 -- ---- a number for each phase, and for each instruction
 
@@ -42,69 +47,39 @@ phase_number (phases.NotifyAll m r) = 22
 phase_number (phases.Ending e) = 23
 phase_number (phases.Ended e) = 24
 
+-- of an instruction its opcode: the same one of `iconst_m1` to `iconst_5`, `ifeq` to `ifle`, and
+-- `if_icmpeq` to `if_icmple`, each of which are one instruction
 abbrev pub instruction_number : Op → ℕ
-instruction_number ops.Nop = 0
-instruction_number ops.AconstNull = 1
-instruction_number (ops.Iconst n) = 2
-instruction_number (ops.Bipush n) = 3
-instruction_number (ops.Sipush n) = 4
-instruction_number (ops.Ldc i) = 5
-instruction_number (ops.LdcW i) = 6
-instruction_number (ops.Iload i) = 7
-instruction_number (ops.Aload i) = 8
-instruction_number (ops.Istore i) = 9
-instruction_number (ops.Astore i) = 10
-instruction_number ops.Iaload = 11
-instruction_number ops.Iastore = 12
-instruction_number ops.Pop = 13
-instruction_number ops.Pop2 = 14
-instruction_number ops.Dup = 15
-instruction_number ops.DupX1 = 16
-instruction_number ops.DupX2 = 17
-instruction_number ops.Dup2 = 18
-instruction_number ops.Swap = 19
-instruction_number ops.Iadd = 20
-instruction_number ops.Isub = 21
-instruction_number ops.Imul = 22
-instruction_number ops.Idiv = 23
-instruction_number ops.Irem = 24
-instruction_number ops.Ineg = 25
-instruction_number ops.Ishl = 26
-instruction_number ops.Ishr = 27
-instruction_number ops.Iushr = 28
-instruction_number ops.Iand = 29
-instruction_number ops.Ior = 30
-instruction_number ops.Ixor = 31
-instruction_number (ops.Iinc i n) = 32
-instruction_number ops.I2b = 33
-instruction_number ops.I2c = 34
-instruction_number ops.I2s = 35
-instruction_number (ops.If c to) = 36
-instruction_number (ops.IfIcmp c to) = 37
-instruction_number (ops.IfAcmpeq to) = 38
-instruction_number (ops.IfAcmpne to) = 39
-instruction_number (ops.Ifnull to) = 40
-instruction_number (ops.Ifnonnull to) = 41
-instruction_number (ops.Goto to) = 42
-instruction_number (ops.GotoW to) = 43
-instruction_number (ops.Tableswitch otherwise lowest targets) = 44
-instruction_number (ops.Lookupswitch otherwise cases) = 45
-instruction_number ops.Ireturn = 46
-instruction_number ops.Areturn = 47
-instruction_number ops.Return = 48
-instruction_number (ops.Getstatic i) = 49
-instruction_number (ops.Putstatic i) = 50
-instruction_number (ops.Getfield i) = 51
-instruction_number (ops.Putfield i) = 52
-instruction_number (ops.Invokevirtual i) = 53
-instruction_number (ops.Invokespecial i) = 54
-instruction_number (ops.Invokestatic i) = 55
-instruction_number (ops.New i) = 56
-instruction_number ops.Newarray = 57
-instruction_number ops.Arraylength = 58
-instruction_number ops.Athrow = 59
-instruction_number ops.Monitorenter = 60
-instruction_number ops.Monitorexit = 61
+instruction_number (ops.Iconst n) = opcode (ops.Iconst (pos 0))
+instruction_number (ops.If c to) = opcode (ops.If Eq to)
+instruction_number (ops.IfIcmp c to) = opcode (ops.IfIcmp Eq to)
+instruction_number op = opcode op
+
+-- an instruction that a form makes
+abbrev pub some_op : Form → Op
+some_op (Plain op) = op
+some_op (Byte make) = make 0
+some_op (Short make) = make 0
+some_op (SignedByte make) = make (pos 0)
+some_op (SignedShort make) = make (pos 0)
+some_op (Branch make) = make 0
+some_op (WideBranch make) = make 0
+some_op (LocalAndStep make) = make 0 (pos 0)
+some_op (IntArray op) = op
+some_op Table = ops.Tableswitch 0 (pos 0) []
+some_op Lookup = ops.Lookupswitch 0 []
+
+-- whether a number is that of an instruction in the table
+abbrev pub has_this_number : ℕ → Option Form → Bool
+has_this_number n None = false
+has_this_number n (Some form) = instruction_number (some_op form) == n
+
+abbrev pub numbers_from : (n count : ℕ) → List ℕ
+numbers_from n zero = []
+numbers_from n (suc count) = n ∷ numbers_from (suc n) count
+
+abbrev pub instruction_numbers : List Bool
+instruction_numbers = map (λ n. has_this_number n (form_of n)) (numbers_from 0 256)
 
 -- ---- the numbers that a step of a run shows
 
@@ -147,7 +122,7 @@ seen_in look [] seen = seen
 seen_in look (r ∷ rs) seen =
     seen_in look rs (seen_along most_events look r.program (first_state r) (First r.order) seen)
 
--- ---- all of them occur
+-- ---- all of them occur, and no number that is none
 
 abbrev pub AllPhasesOccur : Type 0
 AllPhasesOccur =
@@ -156,5 +131,6 @@ AllPhasesOccur =
 
 abbrev pub AllInstructionsOccur : Type 0
 AllInstructionsOccur =
-    seen_in instructions_at (runs.ints_compute ∷ runs.moves_go ∷ runs.elements_throw
-    ∷ runs.torn_counts ∷ runs.spinning_ends ∷ []) (replicate 62 false) ≡ replicate 62 true
+    seen_in instructions_at (instructions.ints_compute ∷ instructions.moves_go
+    ∷ runs.elements_throw ∷ runs.torn_counts ∷ runs.spinning_ends ∷ []) (replicate 256 false)
+    ≡ instruction_numbers

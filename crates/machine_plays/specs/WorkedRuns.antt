@@ -13,9 +13,9 @@ use Rattle.jvm_types.specs.declared.fixed_words.TheConstants.{NEXT_RECORD_WORD}
 use Rattle.machine_plays.specs.Writing.{handler_row, thread_turns, usual, report, print_of}
 use Rattle.machine_plays.specs.Writing.{printed_by}
 use Rattle.machine_plays.specs.WorkedAlone.{add_and_print, add_and_print_twice, all_parts}
-use Rattle.machine_plays.specs.WorkedAlone.{call_itself, catch_by_class, compute, divide_by_zero}
+use Rattle.machine_plays.specs.WorkedAlone.{call_itself, catch_by_class, divide_by_zero}
 use Rattle.machine_plays.specs.WorkedAlone.{index_and_throw, init_only, leaves_by_exception}
-use Rattle.machine_plays.specs.WorkedAlone.{low_bit, make_array, measure_null, moves, return_only}
+use Rattle.machine_plays.specs.WorkedAlone.{low_bit, make_array, measure_null, return_only}
 use Rattle.machine_plays.specs.WorkedPairs.{synchronized_pair, counts_up, divides, make_and_set}
 use Rattle.machine_plays.specs.WorkedPairs.{make_shared, shared, shared_and_done, twice, unlocked}
 use Rattle.machine_plays.specs.WorkedClasses.{leaves_class_by_exception, shared_statics}
@@ -454,32 +454,7 @@ spinning_ends = long_run spins (record usual { steps = 1000 }) []
     (comes_to (report ends.Returned [] 0 0 0 0 0 ∷ report ends.Returned [] 12 0 0 0 0
     ∷ report ends.Returned [] 10 0 0 0 0 ∷ []) ends.Returned [] 28 24)
 
--- ---- ints, stack moves, branches, switches and new arrays
-
--- Each print is what one instruction makes of ints at an edge.
-abbrev pub ints_compute : Run
-ints_compute = run (init_only 8 1 compute []) usual []
-    (comes_to (report ends.Returned (print_of 0 (negsuc 2147483647) ∷ print_of 1 (pos 0)
-    ∷ print_of 2 (pos 1) ∷ print_of 3 (pos 2) ∷ print_of 4 (negsuc 2147483647)
-    ∷ print_of 5 (negsuc 0) ∷ print_of 6 (negsuc 2) ∷ print_of 7 (pos 2147483647)
-    ∷ print_of 8 (negsuc 3) ∷ print_of 9 (negsuc 55) ∷ print_of 10 (pos 65535)
-    ∷ print_of 11 (negsuc 25535) ∷ print_of 12 (negsuc 2147483647) ∷ print_of 13 (pos 0)
-    ∷ print_of 14 (negsuc 2147483647) ∷ []) 72 0 0 0 0 ∷ []) ends.Returned (printed_by 0
-    (negsuc 2147483647) ∷ printed_by 0 (pos 0) ∷ printed_by 0 (pos 1) ∷ printed_by 0 (pos 2)
-    ∷ printed_by 0 (negsuc 2147483647) ∷ printed_by 0 (negsuc 0) ∷ printed_by 0 (negsuc 2)
-    ∷ printed_by 0 (pos 2147483647) ∷ printed_by 0 (negsuc 3) ∷ printed_by 0 (negsuc 55)
-    ∷ printed_by 0 (pos 65535) ∷ printed_by 0 (negsuc 25535) ∷ printed_by 0 (negsuc 2147483647)
-    ∷ printed_by 0 (pos 0) ∷ printed_by 0 (negsuc 2147483647) ∷ []) 76 73)
-
--- Stack moves, bits, branches, switches and a call with an array.
-abbrev pub moves_go : Run
-moves_go = run moves usual []
-    (comes_to (report ends.Returned (print_of 0 (pos 3) ∷ print_of 1 (pos 1) ∷ print_of 2 (negsuc 1)
-    ∷ print_of 3 (pos 1) ∷ print_of 4 (pos 5) ∷ print_of 5 (pos 1) ∷ print_of 6 (pos 7)
-    ∷ print_of 7 (pos 6) ∷ print_of 8 (pos 100000) ∷ print_of 9 (pos 4) ∷ []) 100 0 0 0 0
-    ∷ []) ends.Returned (printed_by 0 (pos 3) ∷ printed_by 0 (pos 1) ∷ printed_by 0 (negsuc 1)
-    ∷ printed_by 0 (pos 1) ∷ printed_by 0 (pos 5) ∷ printed_by 0 (pos 1) ∷ printed_by 0 (pos 7)
-    ∷ printed_by 0 (pos 6) ∷ printed_by 0 (pos 100000) ∷ printed_by 0 (pos 4) ∷ []) 105 101)
+-- ---- new arrays
 
 -- The heap has room for just 2,024 elements.
 abbrev pub array_fits : Run
