@@ -2,8 +2,9 @@
 
 use super::Run;
 use test_classes::{
-    ALL_PARTS, CALLS_ITSELF, CATCHES_BY_CLASS, COMPUTES, DIVIDES_BY_ZERO, INDEXES_AND_THROWS,
-    KEEPS_LOW_BIT, MAKES_ARRAY, MEASURES_NULL, MOVES, NEEDS_SLOTS, UNLOCKED,
+    ALL_PARTS, CALLS_ITSELF, CATCHES_BY_CLASS, COMPUTES, COMPUTES_PRINTS, DIVIDES_BY_ZERO,
+    INDEXES_AND_THROWS, KEEPS_LOW_BIT, MAKES_ARRAY, MEASURES_NULL, MOVES, MOVES_PRINTS,
+    NEEDS_SLOTS, UNLOCKED,
 };
 
 pub const ONE_THREAD: [Run; 16] = [
@@ -61,26 +62,7 @@ pub const ONE_THREAD: [Run; 16] = [
         class: COMPUTES,
         changes: &[],
         status: 0,
-        text: "\
-            -2147483648\n\
-            0\n\
-            1\n\
-            2\n\
-            -2147483648\n\
-            -1\n\
-            -3\n\
-            2147483647\n\
-            -4\n\
-            -56\n\
-            65535\n\
-            -25536\n\
-            -2147483648\n\
-            0\n\
-            -2147483648\n\
-            init returned\n\
-            done returned\n\
-            counts 0 instructions 72 elided 0 failed 0 locked 0 inflated 0\n\
-        ",
+        text: COMPUTES_PRINTS,
     },
     // Stack moves, bits, branches, switches and a call with an array.
     Run {
@@ -89,21 +71,7 @@ pub const ONE_THREAD: [Run; 16] = [
         class: MOVES,
         changes: &[],
         status: 0,
-        text: "\
-            3\n\
-            1\n\
-            -2\n\
-            1\n\
-            5\n\
-            1\n\
-            7\n\
-            6\n\
-            100000\n\
-            4\n\
-            init returned\n\
-            done returned\n\
-            counts 0 instructions 100 elided 0 failed 0 locked 0 inflated 0\n\
-        ",
+        text: MOVES_PRINTS,
     },
     // A division by 0 that nothing catches.
     Run {
