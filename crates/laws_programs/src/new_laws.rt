@@ -9,6 +9,7 @@ pub fn new_is_behind()
 {}
 
 /// It stays so along each edge of an instruction that breaks no rule.
+#[tactic(auto, using(crate::proofs::NewEdges::stays_behind))]
 pub fn new_stays_behind()
     ensures { NewStaysBehind }
 {}
