@@ -12,9 +12,8 @@ use Rattle.jvm_types.specs.declared.program.Target.TheVariants as targets
 
 rows_turned : (handlers : List Handler) (rows : List Row) → AllZip IsRowOf handlers rows → AllZip (λ (r : Row) (h : Handler). (r.start ≡ h.start) × (r.end ≡ h.end) × (r.handler ≡ h.handler)) rows handlers
 rows_turned [] [] all = all
-rows_turned [] (r ∷ rows) all = absurd all
-rows_turned (h ∷ handlers) [] all = absurd all
 rows_turned (h ∷ handlers) (r ∷ rows) all = ((all.0.start, all.0.end, all.0.handler), rows_turned handlers rows all.1)
+rows_turned handlers rows all = absurd all
 
 pub laid_out : (p : Program) (before : List MethodInfo) (m : MethodInfo) → IsMethodOf p before m → IsLaidOut m
 laid_out p before m is = record {
@@ -36,12 +35,11 @@ later pc (x ∷ insns) bytes zero insn s e = let same : x ≡ insn = cc in omega
 later pc (x ∷ insns) bytes (suc i) insn s e = omega (arith, later x.next insns s.1 i insn s.6 e, s.4)
 
 ascending : (pc : ℕ) (insns : List Insn) (bytes : List ℕ) (i j : ℕ) (insn other : Insn) → SpellsInsns pc insns bytes → slice_get insns i ≡ Some insn → slice_get insns j ≡ Some other → i < j → insn.pc < other.pc
-ascending pc [] bytes i j insn other s e f h = absurd (cc)
-ascending pc (x ∷ insns) bytes i zero insn other s e f h = absurd (omega (arith, h))
 ascending pc (x ∷ insns) bytes zero (suc j) insn other s e f h =
     let same : x ≡ insn = cc in
     omega (arith, s.3, s.4, ap (λ (y : Insn). y.pc) same, some_front pc x.op s.0 s.5, later x.next insns s.1 j other s.6 f)
 ascending pc (x ∷ insns) bytes (suc i) (suc j) insn other s e f h = ascending x.next insns s.1 i j insn other s.6 e f (omega (arith, h))
+ascending pc insns bytes i j insn other s e f h = absurd (first_of (cc, omega (arith, h)))
 
 pub ascend : PcsAscend
 ascend m i j insn other laid e f h = ascending 0 m.code laid.bytes i j insn other laid.code.spelled e f h
@@ -129,10 +127,9 @@ handlers_begin m laid = handlers_in m (length laid.bytes) m.rows laid.handlers l
 -- ---- targets
 
 target_at : (R : Insn → Target → Type 0) (insns : List Insn) (ts : List Target) (i : ℕ) (insn : Insn) → AllZip R insns ts → slice_get insns i ≡ Some insn → (t : Target) × (slice_get ts i ≡ Some t) × R insn t
-target_at R [] ts i insn all e = absurd (cc)
-target_at R (x ∷ insns) [] i insn all e = absurd all
 target_at R (x ∷ insns) (t ∷ ts) zero insn all e = let same : x ≡ insn = cc in (t, refl, subst (λ (y : Insn). R y t) same all.0)
 target_at R (x ∷ insns) (t ∷ ts) (suc i) insn all e = target_at R insns ts i insn all.1 e
+target_at R insns ts i insn all e = absurd (first_of (assumption, cc))
 
 pub have_targets : InsnsHaveTargets
 have_targets p number i m insn is e f = target_at (λ (x : Insn) t. IsTargetOf p (site_in m) x.op t) m.code m.targets i insn (is.methods number m e).targets f
@@ -146,8 +143,6 @@ skipped x insns t ts pc e = refl
 
 new_in : (from : ℕ) (insns : List Insn) (bytes : List ℕ) (ts : List Target) (i : ℕ) (insn : Insn) (class : ℕ) → SpellsInsns from insns bytes
     → slice_get insns i ≡ Some insn → slice_get ts i ≡ Some (targets.Class class) → new_class insns ts insn.pc ≡ Some class
-new_in from [] bytes ts i insn class s e f = absurd (cc)
-new_in from (x ∷ insns) bytes [] i insn class s e f = absurd (cc)
 new_in from (x ∷ insns) bytes (t ∷ ts) zero insn class s e f =
     let same : x ≡ insn = cc in
     let is : targets.Class class ≡ t = cc in
@@ -156,6 +151,7 @@ new_in from (x ∷ insns) bytes (t ∷ ts) zero insn class s e f =
 new_in from (x ∷ insns) bytes (t ∷ ts) (suc i) insn class s e f =
     let behind = later x.next insns s.1 i insn s.6 e in
     skipped x insns t ts insn.pc (ne_eqb x.pc insn.pc (λ same. omega (arith, same, behind, s.3, s.4, some_front from x.op s.0 s.5))) ∙ new_in x.next insns s.1 ts i insn class s.6 e f
+new_in from insns bytes ts i insn class s e f = absurd (cc)
 
 pub class_of_the_new : ClassOfNew
 class_of_the_new m i insn class laid e f = new_in 0 m.code laid.bytes m.targets i insn class laid.code.spelled e f

@@ -8,8 +8,6 @@ use Rattle.laws_programs.{specs.EdgeLaws.{EdgesLand, FramesAreNumbered, FramesAr
 
 landing : (code : List Insn) (frames : List (Option TypeFrame)) (f : TypeFrame) (to : ℕ) → FrameFits code frames f to
     → (i : ℕ) × (insn : Insn) × (g : TypeFrame) × (slice_get code i ≡ Some insn) × (insn.pc ≡ to) × (slice_get frames i ≡ Some (Some g)) × (frame_below f g ≡ true)
-landing [] frames f to h = absurd h
-landing (insn ∷ code) [] f to h = absurd h
 landing (insn ∷ code) (frame ∷ frames) f to h = by_test (insn.pc == to) refl (landing code frames f to) h
   where
     Found : Type 0
@@ -24,6 +22,7 @@ landing (insn ∷ code) (frame ∷ frames) f to h = by_test (insn.pc == to) refl
         → IsSomeAnd (cond t frame (frame_at code frames to)) (λ g. IsTrue (frame_below f g)) → Found
     by_test true e more h = here frame refl (grind (arith, nat_tests, e)) h
     by_test false e more h = let l = more h in (suc l.0, l.1, l.2, l.3, l.4, l.5, l.6)
+landing code frames f to h = absurd h
 
 pub lands : EdgesLand
 lands m frames f to h = let l = landing m.code frames f to h in record { number = l.0; insn = l.1; frame = l.2; there = l.3; starts = l.4; has = l.5; fits = l.6 }
@@ -36,14 +35,13 @@ not_first (y ∷ insns) zero x pc n e = let same : y ≡ x = cc in let no : (x.p
 not_first (y ∷ insns) (suc i) x pc n e = not_first insns i x pc (or_parts (y.pc == pc) (is_start insns pc) n).1 e
 
 standing : (code : List Insn) (frames : List (Option TypeFrame)) (i : ℕ) (x : Insn) (o : Option TypeFrame) → AreDistinct code → slice_get code i ≡ Some x → slice_get frames i ≡ Some o → frame_at code frames x.pc ≡ o
-standing [] frames i x o d e f = absurd (cc)
-standing (y ∷ code) [] i x o d e f = absurd (cc)
 standing (y ∷ code) (frame ∷ frames) zero x o d e f =
     let same : y ≡ x = cc in
     let is : frame ≡ o = cc in
     ap (λ t. cond t frame (frame_at code frames x.pc)) (subst (λ (z : Insn). (z.pc == x.pc) ≡ true) (sym same) (grind (arith, nat_tests))) ∙ is
 standing (y ∷ code) (frame ∷ frames) (suc i) x o d e f =
     ap (λ t. cond t frame (frame_at code frames x.pc)) (not_first code i x y.pc d.0 e) ∙ standing code frames i x o d.1 e f
+standing code frames i x o d e f = absurd (cc)
 
 pub stand : FramesAreNumbered
 stand m frames i insn o laid e f = standing m.code frames i insn o (distinct 0 m.code laid.bytes laid.code.spelled) e f
@@ -52,8 +50,6 @@ stand m frames i insn o laid e f = standing m.code frames i insn o (distinct 0 m
 
 found_at : (code : List Insn) (frames : List (Option TypeFrame)) (pc : ℕ) (f : TypeFrame) → frame_at code frames pc ≡ Some f
     → (i : ℕ) × (insn : Insn) × (slice_get code i ≡ Some insn) × (insn.pc ≡ pc) × (slice_get frames i ≡ Some (Some f))
-found_at [] frames pc f e = absurd (cc)
-found_at (insn ∷ code) [] pc f e = absurd (cc)
 found_at (insn ∷ code) (frame ∷ frames) pc f e = by_test (insn.pc == pc) refl e (found_at code frames pc f)
   where
     by_test : (t : Bool) → (insn.pc == pc) ≡ t → cond t frame (frame_at code frames pc) ≡ Some f
@@ -61,6 +57,7 @@ found_at (insn ∷ code) (frame ∷ frames) pc f e = by_test (insn.pc == pc) ref
         → (i : ℕ) × (x : Insn) × (slice_get (insn ∷ code) i ≡ Some x) × (x.pc ≡ pc) × (slice_get (frame ∷ frames) i ≡ Some (Some f))
     by_test true h e more = (0, insn, refl, grind (arith, nat_tests, h), ap (λ (o : Option TypeFrame). Some o) e)
     by_test false h e more = let l = more e in (suc l.0, l.1, l.2, l.3, l.4)
+found_at code frames pc f e = absurd (cc)
 
 pub found : FramesAreFound
 found m frames pc f e = let l = found_at m.code frames pc f e in record { number = l.0; insn = l.1; there = l.2; starts = l.3; has = l.4 }

@@ -8,13 +8,12 @@ use Rattle.laws_programs.specs.FieldLaws.{StaticsLieInside, InstancesLieInside, 
 -- ---- sums
 
 more_before : {X : Type 0} (f : X → ℕ) (xs : List X) (i j : ℕ) (x : X) → slice_get xs i ≡ Some x → i < j → sum_by f (take i xs) + f x ≤ sum_by f (take j xs)
-more_before f [] i j x e h = absurd (cc)
-more_before f (y ∷ xs) i zero x e h = absurd (omega (arith, h))
 more_before f (y ∷ xs) zero (suc j) x e h =
     let same : y ≡ x = cc in
     omega (arith, sum_first f y (take j xs), ap f same)
 more_before f (y ∷ xs) (suc i) (suc j) x e h =
     omega (arith, more_before f xs i j x e (omega (arith, h)), sum_first f y (take i xs), sum_first f y (take j xs))
+more_before f xs i j x e h = absurd (first_of (cc, omega (arith, h)))
 
 more_than : {X : Type 0} (f : X → ℕ) (xs : List X) (i : ℕ) (x : X) → slice_get xs i ≡ Some x → sum_by f (take i xs) + f x ≤ sum_by f xs
 more_than f [] i x e = absurd (cc)
@@ -22,10 +21,9 @@ more_than f (y ∷ xs) zero x e = let same : y ≡ x = cc in omega (arith, sum_f
 more_than f (y ∷ xs) (suc i) x e = omega (arith, more_than f xs i x e, sum_first f y (take i xs), sum_first f y xs)
 
 pub before_at : {X : Type 0} (P : X → Type 0) (xs : List X) (i j : ℕ) (x : X) → AllByRecursion P (take j xs) → slice_get xs i ≡ Some x → i < j → P x
-before_at P [] i j x all e h = absurd (cc)
-before_at P (y ∷ xs) i zero x all e h = absurd (omega (arith, h))
 before_at P (y ∷ xs) zero (suc j) x all e h = let same : y ≡ x = cc in subst P same all.0
 before_at P (y ∷ xs) (suc i) (suc j) x all e h = before_at P xs i j x all.1 e (omega (arith, h))
+before_at P xs i j x all e h = absurd (first_of (cc, omega (arith, h)))
 
 -- ---- fields
 

@@ -30,14 +30,11 @@ abbrev pub AreBelow : List Node → List (Option TypeFrame) → Type 0
 AreBelow nodes others = AllZip IsNodeBelow nodes others
 
 joined_below : (node : Node) (o : Option TypeFrame) (f : TypeFrame) (g : Option TypeFrame) → IsFrameBelow o g → IsBelowSome f g → IsNodeBelow (node_met node o f) g
-joined_below node None f g h k = k
-joined_below node (Some e) f None h k = k
 joined_below node (Some e) f (Some g) h k = types_meet_least e f g h k
+joined_below node o f g h k = k
 
 pub brought_below : (code : List Insn) (to : ℕ) (f : TypeFrame) (nodes : List Node) (others : List (Option TypeFrame)) → AreBelow nodes others → FrameFits code others f to
     → AreBelow (brought code to f nodes) others
-brought_below [] to f nodes others below fits = below
-brought_below (insn ∷ insns) to f [] others below fits = below
 brought_below (insn ∷ insns) to f (node ∷ nodes) [] below fits = absurd below
 brought_below (insn ∷ insns) to f (node ∷ nodes) (g ∷ others) below fits = by_test (insn.pc == to) fits (brought_below insns to f nodes others below.1)
   where
@@ -45,6 +42,7 @@ brought_below (insn ∷ insns) to f (node ∷ nodes) (g ∷ others) below fits =
         → AreBelow (if b then node_met node node.frame f ∷ nodes else node ∷ brought insns to f nodes) (g ∷ others)
     by_test true fit more = (joined_below node node.frame f g below.0 fit, below.1)
     by_test false fit more = (below.0, more fit)
+brought_below code to f nodes others below fits = below
 
 pub all_brought_below : (code : List Insn) (tos : List ℕ) (f : TypeFrame) (nodes : List Node) (others : List (Option TypeFrame)) → AreBelow nodes others
     → AllByRecursion (FrameFits code others f) tos → AreBelow (all_brought code tos f nodes) others
@@ -55,10 +53,9 @@ all_brought_below code (to ∷ tos) f nodes others below fits =
 -- a visited node waits no more
 pub quiet_below : (nodes : List Node) (others : List (Option TypeFrame)) (i : ℕ) → AreBelow nodes others
     → AreBelow (slice_set nodes i (record (node_at nodes i) { waits = false })) others
-quiet_below [] others i below = below
 quiet_below (node ∷ nodes) [] i below = absurd below
-quiet_below (node ∷ nodes) (g ∷ others) zero below = below
 quiet_below (node ∷ nodes) (g ∷ others) (suc i) below = (below.0, quiet_below nodes others i below.1)
+quiet_below nodes others i below = below
 
 -- the frame of the assignment at an instruction that has one
 pub record Above (f : TypeFrame) (others : List (Option TypeFrame)) (i : ℕ) : Type 0 where
@@ -67,8 +64,6 @@ pub record Above (f : TypeFrame) (others : List (Option TypeFrame)) (i : ℕ) : 
   pub below : frame_below f frame ≡ true
 
 pub frame_above : (nodes : List Node) (others : List (Option TypeFrame)) (i : ℕ) (f : TypeFrame) → AreBelow nodes others → (node_at nodes i).frame ≡ Some f → Above f others i
-frame_above [] others i f below e = absurd (cc)
-frame_above (node ∷ nodes) [] i f below e = absurd below
 frame_above (node ∷ nodes) (g ∷ others) zero f below e = by_frame g (subst (λ (o : Option TypeFrame). IsFrameBelow o g) e below.0)
   where
     by_frame : (o : Option TypeFrame) → IsBelowSome f o → Above f (o ∷ others) zero
@@ -77,16 +72,16 @@ frame_above (node ∷ nodes) (g ∷ others) zero f below e = by_frame g (subst (
 frame_above (node ∷ nodes) (g ∷ others) (suc i) f below e =
     let more = frame_above nodes others i f below.1 e in
     record { frame = more.frame; is = more.is; below = more.below }
+frame_above nodes others i f below e = absurd (first_of (assumption, cc))
 
 pub frames_below : (nodes : List Node) (others : List (Option TypeFrame)) → AreBelow nodes others → (i : ℕ) (f g : Option TypeFrame)
     → slice_get (map (λ node. node.frame) nodes) i ≡ Some f → slice_get others i ≡ Some g → IsFrameBelow f g
-frames_below [] others below i f g e d = absurd (cc)
-frames_below (node ∷ nodes) [] below i f g e d = absurd below
 frames_below (node ∷ nodes) (h ∷ others) below zero f g e d =
     let at : node.frame ≡ f = cc in
     let above : h ≡ g = cc in
     subst (λ (o : Option TypeFrame). IsFrameBelow o g) at (subst (λ (o : Option TypeFrame). IsFrameBelow node.frame o) above below.0)
 frames_below (node ∷ nodes) (h ∷ others) below (suc i) f g e d = frames_below nodes others below.1 i f g e d
+frames_below nodes others below i f g e d = absurd (first_of (assumption, cc))
 
 -- ---- each pc has one instruction
 
@@ -138,8 +133,6 @@ fits_here insn insns g others tos f fits h =
 
 no_clash_each : (code : List Insn) (tos : List ℕ) (f : TypeFrame) (nodes : List Node) (others : List (Option TypeFrame)) → AreDistinct code → AreBelow nodes others
     → FitsEach code others tos f → clash code tos (length f.stack) nodes ≡ None
-no_clash_each [] tos f nodes others once below fits = refl
-no_clash_each (insn ∷ insns) tos f [] others once below fits = refl
 no_clash_each (insn ∷ insns) tos f (node ∷ nodes) [] once below fits = absurd below
 no_clash_each (insn ∷ insns) tos f (node ∷ nodes) (g ∷ others) once below fits =
     by_test (has_number tos insn.pc) refl (no_clash_each insns tos f nodes others once.1 below.1 (fits_later insn insns g others tos f once.0 fits))
@@ -148,6 +141,7 @@ no_clash_each (insn ∷ insns) tos f (node ∷ nodes) (g ∷ others) once below 
         → (if b && has_other_depth node.frame (length f.stack) then Some insn.pc else clash insns tos (length f.stack) nodes) ≡ None
     by_test true e more = rw (depth_is node.frame g f below.0 (fits_here insn insns g others tos f fits e)) more
     by_test false e more = more
+no_clash_each code tos f nodes others once below fits = refl
 
 fits_each : (code : List Insn) (others : List (Option TypeFrame)) (f : TypeFrame) (tos : List ℕ) → AllByRecursion (FrameFits code others f) tos → FitsEach code others tos f
 fits_each code others f [] fits to h k = absurd (cc)

@@ -86,9 +86,8 @@ unreached_below (insn ∷ insns) (g ∷ others) e = (tt, unreached_below insns o
 start_below : (m : MethodInfo) (code : List Insn) (bytes : List ℕ) (others : List (Option TypeFrame)) → SpellsInsns 0 code bytes → length others ≡ length code
     → FrameFits code others (entry_type_frame m) 0 → AreBelow (first_nodes m code) others
 start_below m [] bytes [] spelled long entry = tt
-start_below m [] bytes (g ∷ others) spelled long entry = absurd entry
-start_below m (insn ∷ insns) bytes [] spelled long entry = absurd entry
 start_below m (insn ∷ insns) bytes (g ∷ others) spelled long entry = (rw spelled.3 at entry, unreached_below insns others (omega (arith, long)))
+start_below m code bytes others spelled long entry = absurd entry
 
 started_below : (p : Program) (m : MethodInfo) (others : List (Option TypeFrame)) → IsLaidOut m → IsAssignment p m others → AreBelow (first_nodes m m.code) others
 started_below p m others laid good = start_below m m.code laid.bytes others laid.code.spelled good.long good.entry

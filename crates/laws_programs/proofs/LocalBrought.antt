@@ -66,19 +66,16 @@ module _ (m : MethodInfo) (f : TypeFrame) (b : IsBounded m f) where
         by_test false d more = ((all_risen_self (node ∷ [])).0, more d)
 
     pub brought_bounded : (code : List Insn) (nodes : List Node) → AreBounded m nodes → AreBounded m (brought code to f nodes)
-    brought_bounded [] nodes c = c
-    brought_bounded (insn ∷ code) [] c = c
     brought_bounded (insn ∷ code) (node ∷ nodes) c = by_test (insn.pc == to) (brought_bounded code nodes c.1)
       where
         by_test : (t : Bool) → AreBounded m (brought code to f nodes) → AreBounded m (cond t (node_met node node.frame f ∷ nodes) (node ∷ brought code to f nodes))
         by_test true more = (joined_bounded node.waits node.frame c.0, c.1)
         by_test false more = (c.0, more)
+    brought_bounded code nodes c = c
 
     -- the depth at any pc stays
     pub brought_deep : (depth pc : ℕ) → length f.stack ≡ depth → (code : List Insn) (nodes : List Node) → IsDeep depth (frame_at code (frames_of nodes) pc)
         → IsDeep depth (frame_at code (frames_of (brought code to f nodes)) pc)
-    brought_deep depth pc e [] nodes d = tt
-    brought_deep depth pc e (insn ∷ code) [] d = tt
     brought_deep depth pc e (insn ∷ code) (node ∷ nodes) d =
         subst (λ (ns : List Node). IsDeep depth (frame_at (insn ∷ code) (frames_of ns) pc)) (by_parts (insn.pc == to) (node_met node node.frame f) node nodes (brought code to f nodes))
         (by_tests (insn.pc == to) (insn.pc == pc) d (λ d. brought_deep depth pc e code nodes d))
@@ -87,14 +84,12 @@ module _ (m : MethodInfo) (f : TypeFrame) (b : IsBounded m f) where
             → (IsDeep depth (frame_at code (frames_of nodes) pc) → IsDeep depth (frame_at code (frames_of (brought code to f nodes)) pc))
             → IsDeep depth (cond u (cond t (node_met node node.frame f) node).frame (frame_at code (frames_of (cond t nodes (brought code to f nodes))) pc))
         by_tests true true d more = joined_deep node.waits node.frame depth e d
-        by_tests true false d more = d
-        by_tests false true d more = d
         by_tests false false d more = more d
+        by_tests t u d more = d
+    brought_deep depth pc e code nodes d = tt
 
     pub brought_fits : (code : List Insn) (nodes : List Node) → AreBounded m nodes → is_start code to ≡ true → length nodes ≡ length code → IsDeep (length f.stack) (frame_at code (frames_of nodes) to)
         → FrameFits code (frames_of (brought code to f nodes)) f to
-    brought_fits [] nodes c s l d = absurd (cc)
-    brought_fits (insn ∷ code) [] c s l d = absurd (omega arith)
     brought_fits (insn ∷ code) (node ∷ nodes) c s l d =
         subst (λ (ns : List Node). FrameFits (insn ∷ code) (frames_of ns) f to) (by_parts (insn.pc == to) (node_met node node.frame f) node nodes (brought code to f nodes))
         (by_test (insn.pc == to) s d (λ s d. brought_fits code nodes c.1 s (omega arith) d))
@@ -104,3 +99,4 @@ module _ (m : MethodInfo) (f : TypeFrame) (b : IsBounded m f) where
             → IsFrameBelow (Some f) (cond t (cond t (node_met node node.frame f) node).frame (frame_at code (frames_of (cond t nodes (brought code to f nodes))) to))
         by_test true s d more = joined_fits node.waits node.frame c.0 d
         by_test false s d more = more s d
+    brought_fits code nodes c s l d = absurd (first_of (cc, omega arith))

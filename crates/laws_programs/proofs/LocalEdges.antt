@@ -71,8 +71,6 @@ second_false true u e f = e
 second_false false u e f = absurd (cc)
 
 clash_deep : (tos : List ℕ) (depth to : ℕ) → has_number tos to ≡ true → (code : List Insn) (nodes : List Node) → clash code tos depth nodes ≡ None → IsDeep depth (frame_at code (frames_of nodes) to)
-clash_deep tos depth to h [] nodes e = tt
-clash_deep tos depth to h (insn ∷ code) [] e = tt
 clash_deep tos depth to h (insn ∷ code) (node ∷ nodes) e =
     let parts = unclashed (has_number tos insn.pc && has_other_depth node.frame depth) insn.pc (clash code tos depth nodes) e in
     by_test (insn.pc == to) refl parts.0 (clash_deep tos depth to h code nodes parts.1)
@@ -83,6 +81,7 @@ clash_deep tos depth to h (insn ∷ code) (node ∷ nodes) e =
         let same : to ≡ insn.pc = grind (arith, nat_tests, e) in
         same_depth node.frame depth (second_false (has_number tos insn.pc) (has_other_depth node.frame depth) g (subst (λ (pc : ℕ). has_number tos pc ≡ true) same h))
     by_test false e g more = more
+clash_deep tos depth to h code nodes e = tt
 
 pub edges_deep : (code : List Insn) (tos : List ℕ) (depth : ℕ) (nodes : List Node) → clash code tos depth nodes ≡ None → AreDeep code depth nodes tos
 edges_deep code tos depth nodes e = picks (λ to. IsDeep depth (frame_at code (frames_of nodes) to)) tos (λ to h. clash_deep tos depth to h code nodes e)
@@ -95,9 +94,8 @@ pub record Handles (m : MethodInfo) (pc : ℕ) (f : TypeFrame) (handlers : List 
   pub fit : AllByRecursion (λ handler. FrameFits m.code (frames_of mid) (frame_at_handler handler f) handler.handler) handlers
 
 pub uncaught : (fault : Option (VRule × ℕ)) (at : Option ℕ) (more : Result (List Node) (VRule × ℕ)) (mid : List Node) → unless_caught fault at more ≡ Ok mid → (fault ≡ None) × (at ≡ None) × (more ≡ Ok mid)
-uncaught (Some fault) at more mid e = absurd (cc)
-uncaught None (Some at) more mid e = absurd (cc)
 uncaught None None more mid e = (refl, refl, e)
+uncaught fault at more mid e = absurd (cc)
 
 pub handles : (m : MethodInfo) (pc : ℕ) (f : TypeFrame) → IsBounded m f → (handlers : List Row) (nodes mid : List Node) → AreBounded m nodes → length nodes ≡ length m.code
     → AllByRecursion (λ handler. is_start m.code handler.handler ≡ true) handlers → handled m pc f handlers nodes ≡ Ok mid → Handles m pc f handlers nodes mid

@@ -93,15 +93,13 @@ first_going p m laid = record {
 -- ---- one visit
 
 pub got_set : {A : Type 0} (xs : List A) (i j : ℕ) (x y : A) → slice_get (slice_set xs i x) j ≡ Some y → ((j ≡ i) × (x ≡ y)) ⊎ (slice_get xs j ≡ Some y)
-got_set [] i j x y e = inr e
 got_set (a ∷ xs) zero zero x y e = inl (refl, cc)
-got_set (a ∷ xs) zero (suc j) x y e = inr e
-got_set (a ∷ xs) (suc i) zero x y e = inr e
 got_set (a ∷ xs) (suc i) (suc j) x y e = further (got_set xs i j x y e)
   where
     further : ((j ≡ i) × (x ≡ y)) ⊎ (slice_get xs j ≡ Some y) → ((suc j ≡ suc i) × (x ≡ y)) ⊎ (slice_get xs j ≡ Some y)
     further (inl h) = inl (ap suc h.0, h.1)
     further (inr h) = inr h
+got_set xs i j x y e = inr e
 
 visit_goes : (p : Program) (m : MethodInfo) (nodes mid : List Node) (i : ℕ) → IsLaidOut m → IsGoing p m nodes → visited p m i nodes ≡ Ok mid → IsGoing p m mid
 visit_goes p m nodes mid i laid going made = record {

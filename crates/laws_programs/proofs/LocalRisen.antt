@@ -12,9 +12,8 @@ frame_self (Some f) = types_self f
 
 pub frame_trans : (f g h : Option TypeFrame) → IsFrameBelow f g → IsFrameBelow g h → IsFrameBelow f h
 frame_trans None g h a b = tt
-frame_trans (Some f) None h a b = absurd a
-frame_trans (Some f) (Some g) None a b = absurd b
 frame_trans (Some f) (Some g) (Some h) a b = types_trans f g h a b
+frame_trans f g h a b = absurd (assumption)
 
 -- ---- nodes
 
@@ -40,16 +39,13 @@ all_risen_self (a ∷ nodes) = (risen_self a, all_risen_self nodes)
 
 pub all_risen_trans : (xs ys zs : List Node) → AreRisen xs ys → AreRisen ys zs → AreRisen xs zs
 all_risen_trans [] [] zs h k = k
-all_risen_trans [] (b ∷ ys) zs h k = absurd h
-all_risen_trans (a ∷ xs) [] zs h k = absurd h
-all_risen_trans (a ∷ xs) (b ∷ ys) [] h k = absurd k
 all_risen_trans (a ∷ xs) (b ∷ ys) (c ∷ zs) h k = (risen_trans a b c h.0 k.0, all_risen_trans xs ys zs h.1 k.1)
+all_risen_trans xs ys zs h k = absurd (assumption)
 
 pub risen_length : (xs ys : List Node) → AreRisen xs ys → length xs ≡ length ys
 risen_length [] [] h = refl
-risen_length [] (b ∷ ys) h = absurd h
-risen_length (a ∷ xs) [] h = absurd h
 risen_length (a ∷ xs) (b ∷ ys) h = ap suc (risen_length xs ys h.1)
+risen_length xs ys h = absurd h
 
 pub risen_at : (xs ys : List Node) (i : ℕ) (b : Node) → AreRisen xs ys → slice_get ys i ≡ Some b → (a : Node) × (slice_get xs i ≡ Some a) × IsRisen a b
 risen_at [] [] i b h e = absurd (cc)
@@ -64,8 +60,6 @@ abbrev pub frames_of : List Node → List (Option TypeFrame)
 frames_of nodes = map (λ node. node.frame) nodes
 
 frame_at_risen : (code : List Insn) (xs ys : List Node) (pc : ℕ) → AreRisen xs ys → IsFrameBelow (frame_at code (frames_of xs) pc) (frame_at code (frames_of ys) pc)
-frame_at_risen [] xs ys pc h = tt
-frame_at_risen (insn ∷ code) [] ys pc h = tt
 frame_at_risen (insn ∷ code) (a ∷ xs) [] pc h = absurd h
 frame_at_risen (insn ∷ code) (a ∷ xs) (b ∷ ys) pc h = by_test (insn.pc == pc) (frame_at_risen code xs ys pc h.1)
   where
@@ -73,6 +67,7 @@ frame_at_risen (insn ∷ code) (a ∷ xs) (b ∷ ys) pc h = by_test (insn.pc == 
         → IsFrameBelow (cond t a.frame (frame_at code (frames_of xs) pc)) (cond t b.frame (frame_at code (frames_of ys) pc))
     by_test true more = h.0.frame
     by_test false more = more
+frame_at_risen code xs ys pc h = tt
 
 -- what fits goes on to fit
 pub fits_risen : (code : List Insn) (xs ys : List Node) (f : TypeFrame) (to : ℕ) → AreRisen xs ys → FrameFits code (frames_of xs) f to → FrameFits code (frames_of ys) f to
@@ -91,19 +86,17 @@ same_types t u e = absurd (cc)
 
 pub same_lists : (ts us : List VType) → all_pairs same_type ts us ≡ true → ts ≡ us
 same_lists [] [] e = refl
-same_lists [] (u ∷ us) e = absurd (cc)
-same_lists (t ∷ ts) [] e = absurd (cc)
 same_lists (t ∷ ts) (u ∷ us) e =
     let parts = and_parts (same_type t u) (all_pairs same_type ts us) e in
     let one : t ≡ u = same_types t u parts.0 in
     let more : ts ≡ us = same_lists ts us parts.1 in
     cc
+same_lists ts us e = absurd (cc)
 
 same_answers : (a b : Bool) → same_ready a b ≡ true → a ≡ b
-same_answers true true e = refl
 same_answers true false e = absurd (cc)
 same_answers false true e = absurd (cc)
-same_answers false false e = refl
+same_answers a b e = refl
 
 pub same_frames : (f g : TypeFrame) → same_frame f g ≡ true → f ≡ g
 same_frames f g e =

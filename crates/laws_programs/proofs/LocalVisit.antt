@@ -92,9 +92,8 @@ as_row p m insn target frame nodes mid x t f c d g e = rw (c, d, g) at e
 
 -- it waits no more
 pub cleared_frames : (nodes : List Node) (i : ℕ) → frames_of (cleared nodes i) ≡ frames_of nodes
-cleared_frames [] i = refl
-cleared_frames (node ∷ nodes) zero = refl
 cleared_frames (node ∷ nodes) (suc i) = ap (λ (fs : List (Option TypeFrame)). node.frame ∷ fs) (cleared_frames nodes i)
+cleared_frames nodes i = refl
 
 node_bounded : (m : MethodInfo) (nodes : List Node) (i : ℕ) → AreBounded m nodes → IsFrameBounded m (node_at nodes i).frame
 node_bounded m [] i c = tt

@@ -20,24 +20,21 @@ cons_below t u ts us h k = and_from (is_below t u) (all_pairs is_below ts us) h 
 
 item_below : (none : VType) (ts us : List VType) (i : ℕ) → all_pairs is_below ts us ≡ true → is_below (slice_index_or ts i none) (slice_index_or us i none) ≡ true
 item_below none [] [] i h = below_self none
-item_below none [] (u ∷ us) i h = absurd (cc)
-item_below none (t ∷ ts) [] i h = absurd (cc)
 item_below none (t ∷ ts) (u ∷ us) zero h = head_below t u ts us h
 item_below none (t ∷ ts) (u ∷ us) (suc i) h = item_below none ts us i (tail_below t u ts us h)
+item_below none ts us i h = absurd (cc)
 
 set_below : (v w : VType) (ts us : List VType) (i : ℕ) → all_pairs is_below ts us ≡ true → is_below v w ≡ true → all_pairs is_below (slice_set ts i v) (slice_set us i w) ≡ true
 set_below v w [] [] i h k = refl
-set_below v w [] (u ∷ us) i h k = absurd (cc)
-set_below v w (t ∷ ts) [] i h k = absurd (cc)
 set_below v w (t ∷ ts) (u ∷ us) zero h k = cons_below v w ts us k (tail_below t u ts us h)
 set_below v w (t ∷ ts) (u ∷ us) (suc i) h k = cons_below t u (slice_set ts i v) (slice_set us i w) (head_below t u ts us h) (set_below v w ts us i (tail_below t u ts us h) k)
+set_below v w ts us i h k = absurd (cc)
 
 drop_below : (n : ℕ) (ts us : List VType) → all_pairs is_below ts us ≡ true → all_pairs is_below (drop n ts) (drop n us) ≡ true
 drop_below zero ts us h = h
 drop_below (suc n) [] [] h = refl
-drop_below (suc n) [] (u ∷ us) h = absurd (cc)
-drop_below (suc n) (t ∷ ts) [] h = absurd (cc)
 drop_below (suc n) (t ∷ ts) (u ∷ us) h = drop_below n ts us (tail_below t u ts us h)
+drop_below n ts us h = absurd (cc)
 
 -- ---- what a row gives
 
@@ -91,8 +88,6 @@ starts_with own class wants t ts us = refl
 
 pub same_started : (m : MethodInfo) (own : ℕ) (wants : List Want) (ts us : List VType) → all_pairs is_below ts us ≡ true → some_taken (mismatch m) wants us ≡ false
     → started own wants ts ≡ started own wants us
-same_started m own [] ts us h k = refl
-same_started m own (want ∷ wants) [] [] h k = refl
 same_started m own (want ∷ wants) [] (u ∷ us) h k = absurd (cc)
 same_started m own (want ∷ wants) (t ∷ ts) [] h k = absurd (cc)
 same_started m own (ToStart class ∷ wants) (t ∷ ts) (u ∷ us) h k = starts_with own class wants t ts us
@@ -102,6 +97,7 @@ same_started m own (AnInt ∷ wants) (t ∷ ts) (u ∷ us) h k = same_started m 
 same_started m own (AnObject class ∷ wants) (t ∷ ts) (u ∷ us) h k = same_started m own wants ts us (tail_below t u ts us h) (suit_after m (AnObject class) wants u us k)
 same_started m own (AnyReference ∷ wants) (t ∷ ts) (u ∷ us) h k = same_started m own wants ts us (tail_below t u ts us h) (suit_after m AnyReference wants u us k)
 same_started m own (AHolder class ∷ wants) (t ∷ ts) (u ∷ us) h k = same_started m own wants ts us (tail_below t u ts us h) (suit_after m (AHolder class) wants u us k)
+same_started m own wants ts us h k = refl
 
 -- it is uninitialised
 abbrev IsUnstarted : Option (VType × ℕ) → Type 0
@@ -124,10 +120,9 @@ is_unstarted m own wants us k = tt
 initialised_below : (o : VType) (class : ℕ) → is_uninitialised o ≡ true → (ts us : List VType) → all_pairs is_below ts us ≡ true
     → all_pairs is_below (initialised o class ts) (initialised o class us) ≡ true
 initialised_below o class e [] [] h = refl
-initialised_below o class e [] (u ∷ us) h = absurd (cc)
-initialised_below o class e (t ∷ ts) [] h = absurd (cc)
 initialised_below o class e (t ∷ ts) (u ∷ us) h = cons_below (if same_type o t then Ref class else t) (if same_type o u then Ref class else u)
     (initialised o class ts) (initialised o class us) (one_initialised o class t u e (head_below t u ts us h)) (initialised_below o class e ts us (tail_below t u ts us h))
+initialised_below o class e ts us h = absurd (cc)
 
 ready_both : (a b c : Bool) → (a || not b) ≡ true → ((a || c) || not (b || c)) ≡ true
 ready_both true b c h = refl

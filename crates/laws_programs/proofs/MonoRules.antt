@@ -13,12 +13,11 @@ match_below : (m : MethodInfo) (want : Want) (t u : VType) → is_below t u ≡ 
 match_below m want t u h k = ap not (suits_below m want t u h (not-false (suits m want u) k))
 
 taken_below : (m : MethodInfo) (wants : List Want) (ts us : List VType) → all_pairs is_below ts us ≡ true → some_taken (mismatch m) wants us ≡ false → some_taken (mismatch m) wants ts ≡ false
-taken_below m [] ts us h k = refl
-taken_below m (want ∷ wants) [] us h k = refl
 taken_below m (want ∷ wants) (t ∷ ts) [] h k = absurd (cc)
 taken_below m (want ∷ wants) (t ∷ ts) (u ∷ us) h k =
     let parts = or_parts (mismatch m want u) (some_taken (mismatch m) wants us) k in
     or_from (mismatch m want t) (some_taken (mismatch m) wants ts) (match_below m want t u (head_below t u ts us h) parts.0) (taken_below m wants ts us (tail_below t u ts us h) parts.1)
+taken_below m wants ts us h k = refl
 
 local_below : (m : MethodInfo) (want : Want) (ts us : List VType) (i : ℕ) → all_pairs is_below ts us ≡ true → is_fault_at_local (mismatch m) want (slice_get us i) ≡ false
     → is_fault_at_local (mismatch m) want (slice_get ts i) ≡ false
@@ -67,20 +66,13 @@ record NoneHolds (a b c e : Bool) : Type 0 where
   last : e ≡ false
 
 none_holds : (a b c d e : Bool) → order a b c d e ≡ None → NoneHolds a b c e
-none_holds true b c d e h = absurd (cc)
-none_holds false true c d e h = absurd (cc)
-none_holds false false true d e h = absurd (cc)
-none_holds false false false true e h = absurd (cc)
-none_holds false false false false true h = absurd (cc)
 none_holds false false false false false h = record { first = refl; second = refl; third = refl; last = refl }
+none_holds a b c d e h = absurd (cc)
 
 v7_is_left : (a b c d e : Bool) (rule : VRule) → NoneHolds a b c e → order a b c d e ≡ Some rule → rule ≡ V7
 v7_is_left true b c d e rule n h = absurd (cc)
-v7_is_left false true c d e rule n h = absurd (cc)
-v7_is_left false false true d e rule n h = absurd (cc)
 v7_is_left false false false true e rule n h = cc
-v7_is_left false false false false true rule n h = absurd (cc)
-v7_is_left false false false false false rule n h = absurd (cc)
+v7_is_left a b c d e rule n h = absurd (cc)
 
 none_at : (m : MethodInfo) (insn : Insn) (r : OpRow) (g : TypeFrame) → broken_before m insn r g ≡ None → NoneHolds (takes_too_many r g) (gives_too_many m r g) (lacks_locals m r g) (mistypes m r g)
 none_at m insn r g h = none_holds (takes_too_many r g) (gives_too_many m r g) (lacks_locals m r g) (misuses_object m insn r g) (mistypes m r g) h

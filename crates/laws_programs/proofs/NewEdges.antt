@@ -17,11 +17,7 @@ rises pc to l (t ∷ ts) a = (one t a.0, rises pc to l ts a.1)
   where
     one : (t : VType) → IsNewBefore pc t → IsNewBefore to t
     one (New q) h = omega (arith, h, l)
-    one Int h = tt
-    one Null h = tt
-    one (Ref c) h = tt
-    one This h = tt
-    one Top h = tt
+    one t h = tt
 
 -- none at all
 abbrev IsNoNew : VType → Type 0
@@ -33,11 +29,7 @@ none_behind to (t ∷ ts) a = (one t a.0, none_behind to ts a.1)
   where
     one : (t : VType) → is_new t ≡ false → IsNewBefore to t
     one (New q) h = absurd (let bad : true ≡ false = h in cc)
-    one Int h = tt
-    one Null h = tt
-    one (Ref c) h = tt
-    one This h = tt
-    one Top h = tt
+    one t h = tt
 
 -- a branch makes nothing
 branch_fine : (P : VType → Type 0) (top : P Top) (p : Program) (m : MethodInfo) (pc : ℕ) (target : Target) (op : Op) (to : ℕ) → has_number (branches_to op) to ≡ true
@@ -79,11 +71,7 @@ weaker (t ∷ ts) a = (one t a.0, weaker ts a.1)
   where
     one : (t : VType) → is_uninitialised t ≡ false → is_new t ≡ false
     one (New q) h = h
-    one Int h = refl
-    one Null h = refl
-    one (Ref c) h = refl
-    one This h = refl
-    one Top h = refl
+    one t h = refl
 
 reaches_back : (pc : ℕ) (tos : List ℕ) (to : ℕ) → has_number tos to ≡ true → to ≤ pc → list_any (λ t. nat_le t pc) tos ≡ true
 reaches_back pc [] to b l = absurd (let bad : false ≡ true = b in cc)
@@ -146,13 +134,9 @@ behind_above pc [] [] e a = tt
 behind_above pc (u ∷ us) (v ∷ vs) e a = let parts = and_parts (is_below u v) (all_pairs is_below us vs) e in (one u v parts.0 a.0, behind_above pc us vs parts.1 a.1)
   where
     one : (u v : VType) → is_below u v ≡ true → IsNewBefore pc u → IsNewBefore pc v
-    one u Top b h = tt
-    one u Int b h = tt
-    one u Null b h = tt
-    one u (Ref c) b h = tt
-    one u This b h = tt
     one (New q) (New r) b h = let same : q ≡ r = eqb-true q r b in omega (arith, h, same)
     one u (New r) b h = absurd (cc)
+    one u v b h = tt
 behind_above pc us vs e a = absurd (cc)
 
 pub behind_rises : BehindRises

@@ -13,8 +13,7 @@ use Rattle.jvm_types.specs.declared.program.Kind.TheVariants as kinds
 
 kind_behind : (pc : ℕ) (kind : Kind) → IsNewBefore pc (type_of kind)
 kind_behind pc kinds.Int = tt
-kind_behind pc kinds.Bool = tt
-kind_behind pc (kinds.Ref class) = tt
+kind_behind pc kind = tt
 
 kinds_behind : (pc : ℕ) (ks : List Kind) → AllByRecursion (IsNewBefore pc) (map type_of ks)
 kinds_behind pc [] = tt
@@ -53,9 +52,8 @@ meet_behind pc (New p) (New q) h = by_test (p == q) h
 meet_behind pc t u h = tt
 
 meets_behind : (pc : ℕ) (ts us : List VType) → AllByRecursion (IsNewBefore pc) ts → AllByRecursion (IsNewBefore pc) (meets ts us)
-meets_behind pc [] us h = tt
-meets_behind pc (t ∷ ts) [] h = tt
 meets_behind pc (t ∷ ts) (u ∷ us) h = (meet_behind pc t u h.0, meets_behind pc ts us h.1)
+meets_behind pc ts us h = tt
 
 -- ---- nodes
 
@@ -69,21 +67,19 @@ AllBehind (insn ∷ code) (frame ∷ frames) = IsFrameBehind insn.pc frame × Al
 AllBehind code frames = Unit {0}
 
 frame_behind : (code : List Insn) (frames : List (Option TypeFrame)) (i : ℕ) (insn : Insn) (frame : Option TypeFrame) → AllBehind code frames → slice_get code i ≡ Some insn → slice_get frames i ≡ Some frame → IsFrameBehind insn.pc frame
-frame_behind [] frames i insn frame h e d = absurd (cc)
-frame_behind (x ∷ code) [] i insn frame h e d = absurd (cc)
 frame_behind (x ∷ code) (g ∷ frames) zero insn frame h e d =
     let same : x ≡ insn = cc in
     let is : g ≡ frame = cc in
     subst (λ (o : Option TypeFrame). IsFrameBehind insn.pc o) is (subst (λ (y : Insn). IsFrameBehind y.pc g) same h.0)
 frame_behind (x ∷ code) (g ∷ frames) (suc i) insn frame h e d = frame_behind code frames i insn frame h.1 e d
+frame_behind code frames i insn frame h e d = absurd (cc)
 
 node_behind : (code : List Insn) (nodes : List Node) (i : ℕ) (insn : Insn) (f : TypeFrame) → AllBehind code (frames_of nodes) → slice_get code i ≡ Some insn → (node_at nodes i).frame ≡ Some f → AreBehind insn.pc f
-node_behind [] nodes i insn f h e d = absurd (cc)
-node_behind (x ∷ code) [] i insn f h e d = absurd (cc)
 node_behind (x ∷ code) (node ∷ nodes) zero insn f h e d =
     let same : x ≡ insn = cc in
     subst (λ (o : Option TypeFrame). IsFrameBehind insn.pc o) d (subst (λ (y : Insn). IsFrameBehind y.pc node.frame) same h.0)
 node_behind (x ∷ code) (node ∷ nodes) (suc i) insn f h e d = node_behind code nodes i insn f h.1 e d
+node_behind code nodes i insn f h e d = absurd (cc)
 
 none_at : (code : List Insn) → AllBehind code (frames_of (map (λ other. record { frame = None; waits = false }) code))
 none_at [] = tt
@@ -100,14 +96,13 @@ joined_behind pc node None f h k = h
 joined_behind pc node (Some g) f h k = record { stack = meets_behind pc g.stack f.stack k.stack; locals = meets_behind pc g.locals f.locals k.locals }
 
 brought_behind : (code : List Insn) (to : ℕ) (f : TypeFrame) (nodes : List Node) → AreBehind to f → AllBehind code (frames_of nodes) → AllBehind code (frames_of (brought code to f nodes))
-brought_behind [] to f nodes h k = k
-brought_behind (insn ∷ code) to f [] h k = k
 brought_behind (insn ∷ code) to f (node ∷ nodes) h k = by_test (insn.pc == to) refl (brought_behind code to f nodes h k.1)
   where
     by_test : (t : Bool) → (insn.pc == to) ≡ t → AllBehind code (frames_of (brought code to f nodes))
         → AllBehind (insn ∷ code) (frames_of (cond t (node_met node node.frame f ∷ nodes) (node ∷ brought code to f nodes)))
     by_test true e more = (joined_behind insn.pc node node.frame f (subst (λ (pc : ℕ). AreBehind pc f) (sym (eqb-true insn.pc to e)) h) k.0, k.1)
     by_test false e more = (k.0, more)
+brought_behind code to f nodes h k = k
 
 all_brought_behind : (code : List Insn) (tos : List ℕ) (f : TypeFrame) (nodes : List Node) → AllByRecursion (λ to. AreBehind to f) tos → AllBehind code (frames_of nodes) → AllBehind code (frames_of (all_brought code tos f nodes))
 all_brought_behind code [] f nodes h k = k

@@ -45,8 +45,6 @@ none_breaks p m nodes last (i ∷ is) (j ∷ k ∷ js) fault v b =
     none_breaks p m v.1 last is (k ∷ js) fault v.3 (subst (λ (n : List Node). Breaks p m n (k ∷ js) fault) mid b.3)
 
 one_break : (p : Program) (m : MethodInfo) (nodes : List Node) (is js : List ℕ) (fault other : VRule × ℕ) → Breaks p m nodes is fault → Breaks p m nodes js other → fault ≡ other
-one_break p m nodes [] js fault other a b = absurd a
-one_break p m nodes (i ∷ is) [] fault other a b = absurd b
 one_break p m nodes (i ∷ []) (j ∷ []) fault other a b =
     let here : j ≡ i = one_waits (next_visit nodes) j i b.0 a.0 in
     one_fault (visited p m i nodes) fault other a.1 (subst (λ (n : ℕ). visited p m n nodes ≡ Err other) here b.1)
@@ -60,6 +58,7 @@ one_break p m nodes (i ∷ h ∷ is) (j ∷ k ∷ js) fault other a b =
     let here : j ≡ i = one_waits (next_visit nodes) j i b.0 a.0 in
     let mid : b.1 ≡ a.1 = one_mid (visited p m i nodes) b.1 a.1 (subst (λ (n : ℕ). visited p m n nodes ≡ Ok b.1) here b.2) a.2 in
     one_break p m a.1 (h ∷ is) (k ∷ js) fault other a.3 (subst (λ (n : List Node). Breaks p m n (k ∷ js) other) mid b.3)
+one_break p m nodes is js fault other a b = absurd (assumption)
 
 -- ---- the answers
 

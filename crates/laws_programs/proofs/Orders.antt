@@ -97,20 +97,18 @@ meet_is_least = record { first = meet_left; second = meet_right; least = meet_le
 
 one_list : (ts us : List VType) → all_pairs is_below ts us ≡ true → all_pairs is_below us ts ≡ true → ts ≡ us
 one_list [] [] h k = refl
-one_list [] (u ∷ us) h k = absurd (cc)
-one_list (t ∷ ts) [] h k = absurd (cc)
 one_list (t ∷ ts) (u ∷ us) h k =
     let a = and_parts (is_below t u) (all_pairs is_below ts us) h in
     let b = and_parts (is_below u t) (all_pairs is_below us ts) k in
     let first = one_type t u a.0 b.0 in
     let rest = one_list ts us a.1 b.1 in
     λ i. first i ∷ rest i
+one_list ts us h k = absurd (cc)
 
 one_ready : (a b : Bool) → (a || not b) ≡ true → (b || not a) ≡ true → a ≡ b
-one_ready true true h k = refl
 one_ready true false h k = absurd (cc)
 one_ready false true h k = absurd (cc)
-one_ready false false h k = refl
+one_ready a b h k = refl
 
 one_frame : (f g : TypeFrame) → frame_below f g ≡ true → frame_below g f ≡ true → f ≡ g
 one_frame f g h k =

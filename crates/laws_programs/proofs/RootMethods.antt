@@ -12,9 +12,8 @@ other_side true b e h = absurd (cc)
 other_side false b e h = e
 
 middle_false : (a b c : Bool) → (a && b && c) ≡ false → a ≡ true → c ≡ true → b ≡ false
-middle_false true true c e h k = absurd (cc)
 middle_false true false c e h k = refl
-middle_false false b c e h k = absurd (cc)
+middle_false a b c e h k = absurd (cc)
 
 -- ---- descriptors
 
@@ -58,8 +57,7 @@ class_inits p number m is e h =
 
 third_false : (a b c : Bool) → (a && b && c) ≡ false → a ≡ true → b ≡ true → c ≡ false
 third_false true true c e h k = e
-third_false true false c e h k = absurd (cc)
-third_false false b c e h k = absurd (cc)
+third_false a b c e h k = absurd (cc)
 
 entry_static : (p : Program) (before : List MethodInfo) (m : MethodInfo) → IsMethodOf p before m → m.class ≡ file_class 0 → is_entry m.name m.descriptor ≡ true → is_static m.flags ≡ true
 entry_static p before m of class h = not-false (is_static m.flags)

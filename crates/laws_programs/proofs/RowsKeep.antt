@@ -20,9 +20,8 @@ module _ (P : VType → Type 0) (top : P Top) where
   all_append (t ∷ ts) us a b = (a.0, all_append ts us a.1 b)
 
   all_drop : (k : ℕ) (ts : List VType) → AllByRecursion P ts → AllByRecursion P (drop k ts)
-  all_drop zero ts a = a
-  all_drop (suc k) [] a = a
   all_drop (suc k) (t ∷ ts) a = all_drop k ts a.1
+  all_drop k ts a = a
 
   all_set : (ts : List VType) (k : ℕ) (t : VType) → P t → AllByRecursion P ts → AllByRecursion P (slice_set ts k t)
   all_set [] k t h a = a
@@ -71,9 +70,8 @@ module _ (P : VType → Type 0) (top : P Top) where
 
   module _ (int : P Int) (null : P Null) (refs : (c : ℕ) → P (Ref c)) where
     pub kind_fine : (k : Kind) → P (type_of k)
-    kind_fine kinds.Int = int
-    kind_fine kinds.Bool = int
     kind_fine (kinds.Ref c) = refs c
+    kind_fine k = int
 
     result_fine : (r : Option Kind) → AllByRecursion IsFine (option_to_list (option_map (λ kind. Fresh (type_of kind)) r))
     result_fine None = tt

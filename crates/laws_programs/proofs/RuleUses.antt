@@ -38,19 +38,17 @@ tall r f e = at_least (length f.stack) (length r.takes) e
 
 -- a value for each that is asked for
 value_at : (wants : List Want) (ts : List VType) (k : ℕ) (want : Want) → length wants ≤ length ts → slice_get wants k ≡ Some want → (t : VType) × (slice_get ts k ≡ Some t)
-value_at [] ts k want h e = absurd (cc)
-value_at (w ∷ wants) [] k want h e = absurd (omega (arith, h))
 value_at (w ∷ wants) (t ∷ ts) zero want h e = (t, refl)
 value_at (w ∷ wants) (t ∷ ts) (suc k) want h e = value_at wants ts k want (omega (arith, h)) e
+value_at wants ts k want h e = absurd (first_of (cc, omega (arith, h)))
 
 taken_fine : (fault : Want → VType → Bool) (wants : List Want) (ts : List VType) (k : ℕ) (want : Want) (t : VType) → some_taken fault wants ts ≡ false → slice_get wants k ≡ Some want → slice_get ts k ≡ Some t → fault want t ≡ false
-taken_fine fault [] ts k want t h e f = absurd (cc)
-taken_fine fault (w ∷ wants) [] k want t h e f = absurd (cc)
 taken_fine fault (w ∷ wants) (u ∷ ts) zero want t h e f =
     let a : w ≡ want = cc in
     let b : u ≡ t = cc in
     ap (λ (x : Want). fault x t) (sym a) ∙ ap (λ (x : VType). fault w x) (sym b) ∙ (or_parts (fault w u) (some_taken fault wants ts) h).0
 taken_fine fault (w ∷ wants) (u ∷ ts) (suc k) want t h e f = taken_fine fault wants ts k want t (or_parts (fault w u) (some_taken fault wants ts) h).1 e f
+taken_fine fault wants ts k want t h e f = absurd (cc)
 
 -- the values that are taken are without a fault where the operands are
 some_taken_free : (fault : Want → VType → Bool) (r : OpRow) (f : TypeFrame) → some_operand fault r f ≡ false → some_taken fault r.takes f.stack ≡ false
@@ -106,8 +104,7 @@ read_good m insn r f local want rules long e =
 
 kind_suits : (m : MethodInfo) (kind : Kind) (t : VType) → suits m (want_of kind) t ≡ true → is_below t (type_of kind) ≡ true
 kind_suits m kinds.Int t e = e
-kind_suits m kinds.Bool t e = e
-kind_suits m (kinds.Ref class) t e = e
+kind_suits m kind t e = e
 
 wanted_suit : (m : MethodInfo) (ks : List Kind) (more : List Want) (ts : List VType) → length ks ≤ length ts → some_taken (λ w t. not (suits m w t)) (map want_of ks ++ more) ts ≡ false
     → all_pairs is_below (take (length ks) ts) (map type_of ks) ≡ true
@@ -140,16 +137,13 @@ receiver_good m called insn r f want rules e =
 -- ---- returns
 
 int_result : (o : Option Kind) → returns_wrongly ops.Ireturn o ≡ false → (kind : Kind) × (o ≡ Some kind) × (want_of kind ≡ AnInt)
-int_result None e = absurd (cc)
 int_result (Some kinds.Int) e = (kinds.Int, refl, refl)
 int_result (Some kinds.Bool) e = (kinds.Bool, refl, refl)
-int_result (Some (kinds.Ref class)) e = absurd (cc)
+int_result o e = absurd (cc)
 
 object_result : (o : Option Kind) → returns_wrongly ops.Areturn o ≡ false → (kind : Kind) × (o ≡ Some kind) × (want_of kind ≡ returned_want o)
-object_result None e = absurd (cc)
-object_result (Some kinds.Int) e = absurd (cc)
-object_result (Some kinds.Bool) e = absurd (cc)
 object_result (Some (kinds.Ref class)) e = (kinds.Ref class, refl, refl)
+object_result o e = absurd (cc)
 
 no_result : (o : Option Kind) → returns_wrongly ops.Return o ≡ false → o ≡ None
 no_result None e = refl

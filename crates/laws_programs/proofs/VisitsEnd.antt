@@ -118,8 +118,7 @@ unless_clash_ok (Some at) more mid e = absurd (cc)
 
 unless_caught_ok : (x : Option (VRule × ℕ)) (y : Option ℕ) (more : Result (List Node) (VRule × ℕ)) (mid : List Node) → unless_caught x y more ≡ Ok mid → (x ≡ None) × (more ≡ Ok mid)
 unless_caught_ok None None more mid e = (refl, e)
-unless_caught_ok None (Some at) more mid e = absurd (cc)
-unless_caught_ok (Some fault) y more mid e = absurd (cc)
+unless_caught_ok x y more mid e = absurd (cc)
 
 -- ---- the frame after an instruction, and at a handler
 
@@ -139,9 +138,8 @@ room_after m insn r f e =
     grind (arith, nat_tests, fits)
   where
     second_test : (a b : Bool) (more : Option VRule) → (if a then Some V1 else if b then Some V2 else more) ≡ None → b ≡ false
-    second_test true b more g = absurd (cc)
-    second_test false true more g = absurd (cc)
     second_test false false more g = refl
+    second_test a b more g = absurd (cc)
 
 stack_length : (r : OpRow) (stack locals : List VType) → length (stack_after Top (λ t. t) r stack locals) ≡ length stack - length r.takes + length r.gives
 stack_length r stack locals = grind (arith, length-append, length-drop, length-map)

@@ -152,8 +152,7 @@ ready_rank false = 0
 ready_falls : (a b : Bool) → Falls (same_ready a (a && b)) (ready_rank (a && b)) (ready_rank a)
 unfolding ready_rank
 ready_falls true true = omega arith
-ready_falls true false = omega arith
-ready_falls false b = omega arith
+ready_falls a b = omega arith
 
 ready_small : (a : Bool) → ready_rank a ≤ 1
 unfolding ready_rank
@@ -179,6 +178,5 @@ unfolding types_rank
 types_small f places h = omega (arith, h, ranks_small f.stack, ranks_small f.locals, ready_small f.ready)
 
 pub meets_short : (ts us : List VType) → length (meets ts us) ≤ length ts
-meets_short [] us = omega arith
-meets_short (t ∷ ts) [] = omega arith
 meets_short (t ∷ ts) (u ∷ us) = omega (arith, meets_short ts us)
+meets_short ts us = omega arith
