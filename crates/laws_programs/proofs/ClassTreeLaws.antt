@@ -1,5 +1,5 @@
 -- The tree of classes, class by class.
-use Rattle.std.proofs.{Common.{◌≡◌, ℕ, ◌≤◌, Bool, true, false, ◌&&◌, ◌||◌, refl, sym, subst, arith, ◌==◌, nat_le, nat_lt}, lemmas.Bool.Decides.nat_tests}
+use Rattle.std.proofs.{Common.{◌≡◌, ℕ, ◌≤◌, true, false, ◌&&◌, ◌||◌, refl, subst, arith, ◌==◌, nat_le, nat_lt}, lemmas.Bool.Decides.nat_tests}
 use Rattle.jvm_types.specs.{ClassTree.{super_class, ancestors, is_subclass, built_in_supers}, Numbers.has_number, declared.class_numbers.TheConstants.THROWABLE_CLASS}
 use Rattle.jvm_types.proofs.{ClassCases.{behind, by_class}, TypeOrder.pick}
 use Rattle.laws_programs.specs.ClassLaws.{LeavesStandAlone, FileClassesStandAlone, ThrowablesAreBelow}
@@ -27,12 +27,7 @@ files_alone c d n h = leaves_alone c d (past_supers d n) h
 
 -- a class behind the built-in ones
 past : (c : ℕ) → 16 ≤ c → (c == 4) || false ≡ (nat_le 4 c && nat_lt c 16)
-past c h = both (c == 4) (nat_le 4 c) (nat_lt c 16) (grind (arith, nat_tests, h)) (grind (arith, nat_tests, h))
-  where
-    both : (t u v : Bool) → t ≡ false → v ≡ false → t || false ≡ (u && v)
-    both true u v e f = absurd (cc)
-    both false true v e f = sym f
-    both false false v e f = refl
+past c h = grind (arith, nat_tests, h)
 
 pub throwables_below : ThrowablesAreBelow
 unfolding is_subclass

@@ -1,11 +1,11 @@
 -- Instructions follow one another, so that their pcs ascend.
-use Rattle.std.proofs.Common.{◌≡◌, ℕ, zero, suc, ◌+◌, ◌<◌, ◌≤◌, ◌⊎◌, inl, inr, ⊎_elim, Bool, true, false, cond, ◌||◌, List, [], ◌∷◌, length, take, Some, refl, sym, ap, ◌∙◌, subst, arith, length-append, ◌==◌, slice_get}
-use Rattle.std.{specs.List.{AllByRecursion, AllZip}, proofs.lemmas.{Bool.{cases_order, eq-eqb, ne_eqb, Decides.nat_tests}, Slice.Zip.AllZip-long}}
+use Rattle.std.proofs.Common.{◌≡◌, ℕ, zero, suc, ◌+◌, ◌<◌, ◌≤◌, ◌⊎◌, inl, inr, ⊎_elim, true, false, cond, List, [], ◌∷◌, length, take, Some, refl, sym, ap, ◌∙◌, subst, arith, length-append, ◌==◌, slice_get}
+use Rattle.std.{specs.List.{AllByRecursion, AllZip}, proofs.lemmas.{Bool.{eq-eqb, or_cases, ne_eqb, Decides.nat_tests}, Slice.Zip.AllZip-long}}
 use Rattle.jvm_types.specs.{CodeGrammar.{SpellsInsns, is_start, IsStart, RowFits}, CodeTable.branches_to, ProgramInvariant.{IsMethodOf, IsRowOf, IsTargetOf, site_in}}
 use Rattle.jvm_types.specs.{Verifying.{IsLaidOut, new_class}, declared.{class_file.Handler.Handler, code.Insn.Insn, program.{MethodInfo.MethodInfo, Program.Program, Row.Row, Target.Target}}}
 use Rattle.jvm_types.proofs.EachAfter.{all_weaker}
 use Rattle.laws_programs.specs.CodeLaws.{MethodsAreLaidOut, PcsAscend, OneInsn, PcsAreShort, CodeStarts, NextFollows, Begins, StartsBegin, BranchesBegin, HandlersBegin, InsnsHaveTargets, ClassOfNew}
-use Rattle.laws_programs.proofs.{LeastFrames.some_front, LocalGoing.at_index}
+use Rattle.laws_programs.proofs.{FieldOrder.one_index, LeastFrames.some_front, LocalGoing.at_index}
 use Rattle.jvm_types.specs.declared.program.Target.TheVariants as targets
 
 -- ---- a method of a program is laid out
@@ -45,12 +45,7 @@ pub ascend : PcsAscend
 ascend m i j insn other laid e f h = ascending 0 m.code laid.bytes i j insn other laid.code.spelled e f h
 
 pub one_number : OneInsn
-one_number m i j insn other laid e f same = ⊎_elim
-    (λ (h : i ≡ j). h)
-    (λ (h : (i < j) ⊎ (j < i)). ⊎_elim
-    (λ (k : i < j). absurd (omega (arith, same, ascend m i j insn other laid e f k)))
-    (λ (k : j < i). absurd (omega (arith, same, ascend m j i other insn laid f e k))) h)
-    (cases_order i j)
+one_number m i j insn other laid e f same = one_index i j insn.pc other.pc (λ k. ascend m i j insn other laid e f k) (λ k. ascend m j i other insn laid f e k) same
 
 inside : (pc : ℕ) (insns : List Insn) (bytes : List ℕ) (i : ℕ) (insn : Insn) → SpellsInsns pc insns bytes → slice_get insns i ≡ Some insn → insn.pc < pc + length bytes
 inside pc [] bytes i insn s e = absurd (cc)
@@ -82,31 +77,18 @@ following pc (x ∷ []) bytes zero insn s e =
 following pc (x ∷ y ∷ insns) bytes zero insn s e =
     let same : x ≡ insn = cc in
     inl (y, refl, s.6.3 ∙ ap (λ (z : Insn). z.next) same)
-following pc (x ∷ insns) bytes (suc i) insn s e = further (following x.next insns s.1 i insn s.6 e)
-  where
-    further : ((other : Insn) × (slice_get insns (suc i) ≡ Some other) × (other.pc ≡ insn.next)) ⊎ ((suc i ≡ length insns) × (insn.next ≡ x.next + length s.1))
-        → ((other : Insn) × (slice_get (x ∷ insns) (suc (suc i)) ≡ Some other) × (other.pc ≡ insn.next)) ⊎ ((suc (suc i) ≡ length (x ∷ insns)) × (insn.next ≡ pc + length bytes))
-    further (inl h) = inl h
-    further (inr h) = inr (omega (arith, h.0), omega (arith, h.1, s.4, ap length s.2, length-append s.0 s.1))
+following pc (x ∷ insns) bytes (suc i) insn s e =
+    ⊎_elim (λ h. inl h) (λ h. inr (omega (arith, h.0), omega (arith, h.1, s.4, ap length s.2, length-append s.0 s.1))) (following x.next insns s.1 i insn s.6 e)
 
 pub follows : NextFollows
-follows m i insn laid e = from_start (following 0 m.code laid.bytes i insn laid.code.spelled e)
-  where
-    from_start : ((other : Insn) × (slice_get m.code (suc i) ≡ Some other) × (other.pc ≡ insn.next)) ⊎ ((suc i ≡ length m.code) × (insn.next ≡ 0 + length laid.bytes))
-        → ((other : Insn) × (slice_get m.code (suc i) ≡ Some other) × (other.pc ≡ insn.next)) ⊎ ((suc i ≡ length m.code) × (insn.next ≡ length laid.bytes))
-    from_start (inl h) = inl h
-    from_start (inr h) = inr (h.0, omega (arith, h.1))
+follows m i insn laid e = ⊎_elim (λ h. inl h) (λ h. inr (h.0, omega (arith, h.1))) (following 0 m.code laid.bytes i insn laid.code.spelled e)
 
 -- ---- where an instruction begins
 
 begin_at : (insns : List Insn) (pc : ℕ) → is_start insns pc ≡ true → (i : ℕ) × (insn : Insn) × (slice_get insns i ≡ Some insn) × (insn.pc ≡ pc)
 begin_at [] pc h = absurd (cc)
-begin_at (x ∷ insns) pc h = by_test (x.pc == pc) refl h (begin_at insns pc)
-  where
-    by_test : (t : Bool) → (x.pc == pc) ≡ t → (t || is_start insns pc) ≡ true → (is_start insns pc ≡ true → (i : ℕ) × (insn : Insn) × (slice_get insns i ≡ Some insn) × (insn.pc ≡ pc))
-        → (i : ℕ) × (insn : Insn) × (slice_get (x ∷ insns) i ≡ Some insn) × (insn.pc ≡ pc)
-    by_test true e h more = (0, x, refl, grind (arith, nat_tests, e))
-    by_test false e h more = let found = more h in (suc found.0, found.1, found.2, found.3)
+begin_at (x ∷ insns) pc h = ⊎_elim (λ (e : (x.pc == pc) ≡ true). (0, x, refl, grind (arith, nat_tests, e)))
+    (λ (e : is_start insns pc ≡ true). let found = begin_at insns pc e in (suc found.0, found.1, found.2, found.3)) (or_cases (x.pc == pc) (is_start insns pc) h)
 
 pub begin : StartsBegin
 begin m pc h = let found = begin_at m.code pc h in record { number = found.0; insn = found.1; there = found.2; starts = found.3 }

@@ -1,6 +1,6 @@
 -- An edge that fits leads to an instruction with a frame, and the frame at its pc is that of its number.
-use Rattle.std.proofs.Common.{◌≡◌, ℕ, zero, suc, Bool, true, false, cond, List, [], ◌∷◌, Option, Some, None, refl, sym, ap, ◌∙◌, subst, arith, ◌==◌, slice_get, IsSomeAnd, IsTrue}
-use Rattle.std.proofs.lemmas.Bool.{or_parts, Decides.nat_tests}
+use Rattle.std.proofs.Common.{◌≡◌, ℕ, zero, suc, true, false, cond, List, [], ◌∷◌, Option, Some, None, refl, sym, ap, ◌∙◌, subst, arith, ◌==◌, slice_get, IsSomeAnd, IsTrue}
+use Rattle.std.proofs.lemmas.Bool.{cond_both, or_parts, Decides.nat_tests}
 use Rattle.jvm_types.specs.{CodeGrammar.is_start, Types.{TypeFrame, frame_below}, Verifying.{frame_at, FrameFits}, declared.code.Insn.Insn}
 use Rattle.laws_programs.{specs.EdgeLaws.{EdgesLand, FramesAreNumbered, FramesAreFound}, proofs.LeastFrames.{AreDistinct, distinct}}
 
@@ -8,7 +8,9 @@ use Rattle.laws_programs.{specs.EdgeLaws.{EdgesLand, FramesAreNumbered, FramesAr
 
 landing : (code : List Insn) (frames : List (Option TypeFrame)) (f : TypeFrame) (to : ℕ) → FrameFits code frames f to
     → (i : ℕ) × (insn : Insn) × (g : TypeFrame) × (slice_get code i ≡ Some insn) × (insn.pc ≡ to) × (slice_get frames i ≡ Some (Some g)) × (frame_below f g ≡ true)
-landing (insn ∷ code) (frame ∷ frames) f to h = by_test (insn.pc == to) refl (landing code frames f to) h
+landing (insn ∷ code) (frame ∷ frames) f to h =
+    cond_both (insn.pc == to) frame (frame_at code frames to) (λ o. IsSomeAnd o (λ g. IsTrue (frame_below f g)) → Found) (λ e. here frame refl (grind (arith, nat_tests, e)))
+    (λ e h. let l = landing code frames f to h in (suc l.0, l.1, l.2, l.3, l.4, l.5, l.6)) h
   where
     Found : Type 0
     Found = (i : ℕ) × (x : Insn) × (g : TypeFrame) × (slice_get (insn ∷ code) i ≡ Some x) × (x.pc ≡ to) × (slice_get (frame ∷ frames) i ≡ Some (Some g)) × (frame_below f g ≡ true)
@@ -16,12 +18,6 @@ landing (insn ∷ code) (frame ∷ frames) f to h = by_test (insn.pc == to) refl
     here : (o : Option TypeFrame) → frame ≡ o → (insn.pc ≡ to) → IsSomeAnd o (λ g. IsTrue (frame_below f g)) → Found
     here None e same h = absurd h
     here (Some g) e same h = (0, insn, g, refl, same, ap (λ (o : Option TypeFrame). Some o) e, h)
-
-    by_test : (t : Bool) → (insn.pc == to) ≡ t
-        → (FrameFits code frames f to → (i : ℕ) × (x : Insn) × (g : TypeFrame) × (slice_get code i ≡ Some x) × (x.pc ≡ to) × (slice_get frames i ≡ Some (Some g)) × (frame_below f g ≡ true))
-        → IsSomeAnd (cond t frame (frame_at code frames to)) (λ g. IsTrue (frame_below f g)) → Found
-    by_test true e more h = here frame refl (grind (arith, nat_tests, e)) h
-    by_test false e more h = let l = more h in (suc l.0, l.1, l.2, l.3, l.4, l.5, l.6)
 landing code frames f to h = absurd h
 
 pub lands : EdgesLand
@@ -50,13 +46,9 @@ stand m frames i insn o laid e f = standing m.code frames i insn o (distinct 0 m
 
 found_at : (code : List Insn) (frames : List (Option TypeFrame)) (pc : ℕ) (f : TypeFrame) → frame_at code frames pc ≡ Some f
     → (i : ℕ) × (insn : Insn) × (slice_get code i ≡ Some insn) × (insn.pc ≡ pc) × (slice_get frames i ≡ Some (Some f))
-found_at (insn ∷ code) (frame ∷ frames) pc f e = by_test (insn.pc == pc) refl e (found_at code frames pc f)
-  where
-    by_test : (t : Bool) → (insn.pc == pc) ≡ t → cond t frame (frame_at code frames pc) ≡ Some f
-        → (frame_at code frames pc ≡ Some f → (i : ℕ) × (x : Insn) × (slice_get code i ≡ Some x) × (x.pc ≡ pc) × (slice_get frames i ≡ Some (Some f)))
-        → (i : ℕ) × (x : Insn) × (slice_get (insn ∷ code) i ≡ Some x) × (x.pc ≡ pc) × (slice_get (frame ∷ frames) i ≡ Some (Some f))
-    by_test true h e more = (0, insn, refl, grind (arith, nat_tests, h), ap (λ (o : Option TypeFrame). Some o) e)
-    by_test false h e more = let l = more e in (suc l.0, l.1, l.2, l.3, l.4)
+found_at (insn ∷ code) (frame ∷ frames) pc f e = cond_both (insn.pc == pc) frame (frame_at code frames pc)
+    (λ o. o ≡ Some f → (i : ℕ) × (x : Insn) × (slice_get (insn ∷ code) i ≡ Some x) × (x.pc ≡ pc) × (slice_get (frame ∷ frames) i ≡ Some (Some f)))
+    (λ h e. (0, insn, refl, grind (arith, nat_tests, h), ap (λ (o : Option TypeFrame). Some o) e)) (λ h e. let l = found_at code frames pc f e in (suc l.0, l.1, l.2, l.3, l.4)) e
 found_at code frames pc f e = absurd (cc)
 
 pub found : FramesAreFound

@@ -1,6 +1,6 @@
 -- The places of fields: each field is behind those before it.
-use Rattle.std.proofs.Common.{◌≡◌, ℕ, zero, suc, ◌+◌, ◌-◌, ◌*◌, ◌<◌, ◌≤◌, ◌⊎◌, ⊎_elim, Bool, true, false, cond, not, ◌&&◌, List, [], ◌∷◌, take, Some, refl, sym, ap, ◌∙◌, subst, arith, ◌==◌, slice_get}
-use Rattle.std.{specs.List.{AllByRecursion, sum_by}, proofs.lemmas.Bool.{cases_order, Decides.nat_tests}}
+use Rattle.std.proofs.Common.{◌≡◌, ℕ, zero, suc, ◌+◌, ◌-◌, ◌*◌, ◌<◌, ◌≤◌, ⊎_elim, Bool, true, false, cond, not, ◌&&◌, List, [], ◌∷◌, take, Some, refl, sym, ap, ◌∙◌, subst, arith, ◌==◌, slice_get}
+use Rattle.std.{specs.List.{AllByRecursion, sum_by}, proofs.lemmas.Bool.{cases_order, eq-eqb}}
 use Rattle.jvm_types.specs.{ClassNames.file_class, Members.is_static, ProgramInvariant.{IsFieldOf, statics_among, instances_among, index_after}, declared.fixed_words.TheConstants.FIRST_CLASS_WORD}
 use Rattle.jvm_types.{specs.declared.program.FieldInfo.FieldInfo, proofs.EachAfter.sum_first}
 use Rattle.laws_programs.specs.FieldLaws.{StaticsLieInside, InstancesLieInside, StaticsAreApart, InstancesAreApart, OneStatic, OneInstance}
@@ -37,10 +37,7 @@ one_static : (f : FieldInfo) → is_static f.flags ≡ true → ◌≡◌ {A = �
 one_static f e = ap (λ (b : Bool). cond {A = ℕ} b 1 0) e
 
 one_instance : (class : ℕ) (f : FieldInfo) → f.class ≡ class → is_static f.flags ≡ false → ◌≡◌ {A = ℕ} (cond ((f.class == class) && not (is_static f.flags)) 1 0) 1
-one_instance class f same e = ap (λ (b : Bool). cond {A = ℕ} ((f.class == class) && not b) 1 0) e ∙ ap (λ (b : Bool). cond {A = ℕ} (b && true) 1 0) (is_same f.class class same)
-  where
-    is_same : (x y : ℕ) → x ≡ y → (x == y) ≡ true
-    is_same x y e = grind (arith, nat_tests, e)
+one_instance class f same e = ap (λ (b : Bool). cond {A = ℕ} ((f.class == class) && not b) 1 0) e ∙ ap (λ (b : Bool). cond {A = ℕ} (b && true) 1 0) (eq-eqb f.class class same)
 
 pub statics_inside : StaticsLieInside
 statics_inside p n f is e s =
@@ -77,14 +74,12 @@ instances_apart p i j f g is e d h same s t =
 
 -- ---- one place, one field
 
-one_number : (i j a b : ℕ) → (i < j → a < b) → (j < i → b < a) → a ≡ b → i ≡ j
-one_number i j a b up down e = ⊎_elim
-    (λ (h : i ≡ j). h)
-    (λ (h : (i < j) ⊎ (j < i)). ⊎_elim (λ (k : i < j). absurd (omega (arith, e, up k))) (λ (k : j < i). absurd (omega (arith, e, down k))) h)
-    (cases_order i j)
+pub one_index : (i j a b : ℕ) → (i < j → a < b) → (j < i → b < a) → a ≡ b → i ≡ j
+one_index i j a b up down e =
+    ⊎_elim (λ (h : i ≡ j). h) (λ h. ⊎_elim (λ (k : i < j). absurd (omega (arith, e, up k))) (λ (k : j < i). absurd (omega (arith, e, down k))) h) (cases_order i j)
 
 pub one_static_field : OneStatic
-one_static_field p i j f g is e d s t = one_number i j f.index g.index (λ h. statics_apart p i j f g is e d h s t) (λ h. statics_apart p j i g f is d e h t s)
+one_static_field p i j f g is e d s t = one_index i j f.index g.index (λ h. statics_apart p i j f g is e d h s t) (λ h. statics_apart p j i g f is d e h t s)
 
 pub one_instance_field : OneInstance
-one_instance_field p i j f g is e d same s t = one_number i j f.index g.index (λ h. instances_apart p i j f g is e d h same s t) (λ h. instances_apart p j i g f is d e h (sym same) t s)
+one_instance_field p i j f g is e d same s t = one_index i j f.index g.index (λ h. instances_apart p i j f g is e d h same s t) (λ h. instances_apart p j i g f is d e h (sym same) t s)

@@ -1,6 +1,6 @@
 -- What every frame has in the course of the visits: as many locals as the entry frame, a stack within max_stack,
 -- and outside an `<init>` its `this` initialised.
-use Rattle.std.proofs.Common.{◌≡◌, ℕ, suc, ◌+◌, ◌-◌, ◌≤◌, Bool, true, false, cond, not, ◌&&◌, ◌||◌, List, [], ◌∷◌, length, Option, Some, None, refl, ap, ◌∙◌, arith, length-append, length-drop, length-set, ◌==◌}
+use Rattle.std.proofs.Common.{◌≡◌, ℕ, suc, ◌+◌, ◌-◌, ◌≤◌, Bool, true, false, cond, not, List, [], ◌∷◌, length, Option, Some, None, refl, ap, ◌∙◌, arith, length-append, length-drop, length-set, ◌==◌}
 use Rattle.std.proofs.lemmas.{Bool.{ltb-false, and_from, or_left, Decides.nat_tests}, List.length-map}
 use Rattle.jvm_types.specs.{ClassTree.is_subclass, CodeTable.{stack_after, locals_after, is_init}, Types.{TypeFrame, meets, meet_frames, entry_type_frame, same_type}}
 use Rattle.jvm_types.specs.Verifying.{first_broken, takes_too_many, gives_too_many, lacks_locals, misuses_object, mistypes, broken_before, started, after_start, frame_after, catch_fault, caught_class, frame_at_handler}

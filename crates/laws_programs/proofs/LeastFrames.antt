@@ -1,6 +1,6 @@
 -- What edges bring to nodes whose frames are at or below those of an assignment.
-use Rattle.std.proofs.Common.{◌≡◌, ℕ, zero, suc, ◌<◌, Bool, true, false, not, ◌&&◌, ◌||◌, List, [], ◌∷◌, length, map, Option, Some, None, refl, ap, sym, subst, ◌∙◌, arith, eqb-true, eq-eqb, ne_eqb, ◌==◌, if◌then◌else◌, IsSomeAnd, IsTrue, slice_get, slice_set}
-use Rattle.std.{specs.List.{AllByRecursion, AllZip}, proofs.lemmas.Bool.{or_from, or_left, or_right}}
+use Rattle.std.proofs.Common.{◌≡◌, ⊎_elim, ℕ, zero, suc, ◌<◌, Bool, true, false, not, ◌&&◌, List, [], ◌∷◌, length, map, Option, Some, None, refl, ap, sym, subst, ◌∙◌, arith, eqb-true, eq-eqb, ne_eqb, ◌==◌, if◌then◌else◌, IsSomeAnd, IsTrue, slice_get, slice_set}
+use Rattle.std.{specs.List.{AllByRecursion, AllZip}, proofs.lemmas.Bool.{and_parts, cond_both, false_from_ne_true, true≢false, or_cases, or_from, or_left, or_right}}
 use Rattle.jvm_types.specs.{CodeGrammar.{SpellsInsns, SpellsOp, is_start}, Numbers.has_number, Types.{TypeFrame, frame_below}}
 use Rattle.jvm_types.specs.{Verifying.{Node, node_at, node_met, brought, all_brought, has_other_depth, clash, frame_at, FrameFits, IsFrameBelow}, declared.code.{Insn.Insn, Op.Op}}
 use Rattle.jvm_types.proofs.FrameOrder.{pairs_length, stack_below, types_trans, types_meet_least}
@@ -36,12 +36,11 @@ joined_below node o f g h k = k
 pub brought_below : (code : List Insn) (to : ℕ) (f : TypeFrame) (nodes : List Node) (others : List (Option TypeFrame)) → AreBelow nodes others → FrameFits code others f to
     → AreBelow (brought code to f nodes) others
 brought_below (insn ∷ insns) to f (node ∷ nodes) [] below fits = absurd below
-brought_below (insn ∷ insns) to f (node ∷ nodes) (g ∷ others) below fits = by_test (insn.pc == to) fits (brought_below insns to f nodes others below.1)
-  where
-    by_test : (b : Bool) → IsBelowSome f (if b then g else frame_at insns others to) → (IsBelowSome f (frame_at insns others to) → AreBelow (brought insns to f nodes) others)
-        → AreBelow (if b then node_met node node.frame f ∷ nodes else node ∷ brought insns to f nodes) (g ∷ others)
-    by_test true fit more = (joined_below node node.frame f g below.0 fit, below.1)
-    by_test false fit more = (below.0, more fit)
+brought_below (insn ∷ insns) to f (node ∷ nodes) (g ∷ others) below fits =
+    (elim (insn.pc == to) as (λ b. IsBelowSome f (if b then g else frame_at insns others to) → AreBelow (if b then node_met node node.frame f ∷ nodes else node ∷ brought insns to f nodes) (g ∷ others)) [
+      | true ↦ λ fit. (joined_below node node.frame f g below.0 fit, below.1)
+      | false ↦ λ fit. (below.0, brought_below insns to f nodes others below.1 fit)
+    ]) fits
 brought_below code to f nodes others below fits = below
 
 pub all_brought_below : (code : List Insn) (tos : List ℕ) (f : TypeFrame) (nodes : List Node) (others : List (Option TypeFrame)) → AreBelow nodes others
@@ -70,8 +69,7 @@ frame_above (node ∷ nodes) (g ∷ others) zero f below e = by_frame g (subst (
     by_frame None h = absurd h
     by_frame (Some h) k = record { frame = h; is = refl; below = k }
 frame_above (node ∷ nodes) (g ∷ others) (suc i) f below e =
-    let more = frame_above nodes others i f below.1 e in
-    record { frame = more.frame; is = more.is; below = more.below }
+    let more = frame_above nodes others i f below.1 e in record { frame = more.frame; is = more.is; below = more.below }
 frame_above nodes others i f below e = absurd (first_of (assumption, cc))
 
 pub frames_below : (nodes : List Node) (others : List (Option TypeFrame)) → AreBelow nodes others → (i : ℕ) (f g : Option TypeFrame)
@@ -119,11 +117,9 @@ FitsEach code others tos f = (to : ℕ) → has_number tos to ≡ true → is_st
 
 fits_later : (insn : Insn) (insns : List Insn) (g : Option TypeFrame) (others : List (Option TypeFrame)) (tos : List ℕ) (f : TypeFrame) → is_start insns insn.pc ≡ false
     → FitsEach (insn ∷ insns) (g ∷ others) tos f → FitsEach insns others tos f
-fits_later insn insns g others tos f once fits to h k = by_test (insn.pc == to) refl (fits to h (or_right (insn.pc == to) (is_start insns to) k))
-  where
-    by_test : (b : Bool) → (insn.pc == to) ≡ b → IsBelowSome f (if b then g else frame_at insns others to) → IsBelowSome f (frame_at insns others to)
-    by_test true e fit = let other : is_start insns insn.pc ≡ true = subst (λ (n : ℕ). is_start insns n ≡ true) (sym (eqb-true insn.pc to e)) k in absurd (cc)
-    by_test false e fit = fit
+fits_later insn insns g others tos f once fits to h k = cond_both (insn.pc == to) g (frame_at insns others to) (λ o. IsBelowSome f o → IsBelowSome f (frame_at insns others to))
+    (λ e fit. let other : is_start insns insn.pc ≡ true = subst (λ (n : ℕ). is_start insns n ≡ true) (sym (eqb-true insn.pc to e)) k in absurd (cc)) (λ e fit. fit)
+    (fits to h (or_right (insn.pc == to) (is_start insns to) k))
 
 fits_here : (insn : Insn) (insns : List Insn) (g : Option TypeFrame) (others : List (Option TypeFrame)) (tos : List ℕ) (f : TypeFrame)
     → FitsEach (insn ∷ insns) (g ∷ others) tos f → has_number tos insn.pc ≡ true → IsBelowSome f g
@@ -135,21 +131,17 @@ no_clash_each : (code : List Insn) (tos : List ℕ) (f : TypeFrame) (nodes : Lis
     → FitsEach code others tos f → clash code tos (length f.stack) nodes ≡ None
 no_clash_each (insn ∷ insns) tos f (node ∷ nodes) [] once below fits = absurd below
 no_clash_each (insn ∷ insns) tos f (node ∷ nodes) (g ∷ others) once below fits =
-    by_test (has_number tos insn.pc) refl (no_clash_each insns tos f nodes others once.1 below.1 (fits_later insn insns g others tos f once.0 fits))
-  where
-    by_test : (b : Bool) → has_number tos insn.pc ≡ b → clash insns tos (length f.stack) nodes ≡ None
-        → (if b && has_other_depth node.frame (length f.stack) then Some insn.pc else clash insns tos (length f.stack) nodes) ≡ None
-    by_test true e more = rw (depth_is node.frame g f below.0 (fits_here insn insns g others tos f fits e)) more
-    by_test false e more = more
+    let more = no_clash_each insns tos f nodes others once.1 below.1 (fits_later insn insns g others tos f once.0 fits) in
+    let quiet : (has_number tos insn.pc && has_other_depth node.frame (length f.stack)) ≡ false = false_from_ne_true (has_number tos insn.pc && has_other_depth node.frame (length f.stack)) (λ e.
+    let parts = and_parts (has_number tos insn.pc) (has_other_depth node.frame (length f.stack)) e in
+    true≢false (sym parts.1 ∙ depth_is node.frame g f below.0 (fits_here insn insns g others tos f fits parts.0))) in
+    rw quiet more
 no_clash_each code tos f nodes others once below fits = refl
 
 fits_each : (code : List Insn) (others : List (Option TypeFrame)) (f : TypeFrame) (tos : List ℕ) → AllByRecursion (FrameFits code others f) tos → FitsEach code others tos f
 fits_each code others f [] fits to h k = absurd (cc)
-fits_each code others f (first ∷ tos) fits to h k = by_test (first == to) refl h (λ e. fits_each code others f tos fits.1 to e k)
-  where
-    by_test : (b : Bool) → (first == to) ≡ b → (b || has_number tos to) ≡ true → (has_number tos to ≡ true → FrameFits code others f to) → FrameFits code others f to
-    by_test true e h more = subst (FrameFits code others f) (eqb-true first to e) fits.0
-    by_test false e h more = more h
+fits_each code others f (first ∷ tos) fits to h k = ⊎_elim
+    (λ (e : (first == to) ≡ true). subst (FrameFits code others f) (eqb-true first to e) fits.0) (λ (e : has_number tos to ≡ true). fits_each code others f tos fits.1 to e k) (or_cases (first == to) (has_number tos to) h)
 
 pub no_clash : (code : List Insn) (tos : List ℕ) (f : TypeFrame) (nodes : List Node) (others : List (Option TypeFrame)) → AreDistinct code → AreBelow nodes others
     → AllByRecursion (FrameFits code others f) tos → clash code tos (length f.stack) nodes ≡ None

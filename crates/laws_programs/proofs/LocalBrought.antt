@@ -1,6 +1,6 @@
 -- What the nodes are after a frame was brought along edges.
 use Rattle.std.{proofs.Common.{◌≡◌, ℕ, Bool, true, false, cond, not, ◌||◌, List, [], ◌∷◌, length, Option, Some, None, refl, sym, ap, ◌∙◌, subst, arith, ◌==◌}, specs.List.AllByRecursion}
-use Rattle.std.proofs.lemmas.Bool.{or_parts}
+use Rattle.std.proofs.lemmas.Bool.{cond_both, not-false, or_parts}
 use Rattle.jvm_types.specs.{CodeGrammar.is_start, Types.{TypeFrame, meet_frames, same_frame}, Verifying.{Node, node_met, brought, frame_at, FrameFits, IsFrameBelow}, declared.code.Insn.Insn}
 use Rattle.jvm_types.{specs.declared.program.MethodInfo.MethodInfo, proofs.FrameOrder.{types_self, types_meet_left, types_meet_right}}
 use Rattle.laws_programs.proofs.{FrameBounds.{IsBounded, meets_length, meet_bounded}, LocalRisen.{IsRisen, AreRisen, all_risen_self, frames_of, same_frames}}
@@ -30,14 +30,10 @@ module _ (m : MethodInfo) (f : TypeFrame) (b : IsBounded m f) where
   joined_risen waits None c d = record { frame = tt; kept = λ e. absurd (cc) }
   joined_risen waits (Some g) c d = record { frame = types_meet_left g f d (omega (arith, c.locals, b.locals)); kept = kept }
     where
-      same : (t : Bool) → not t ≡ false → t ≡ true
-      same true e = refl
-      same false e = absurd (cc)
-
       kept : (waits || not (same_frame g (meet_frames g f))) ≡ false → (waits ≡ false) × (Some g ≡ Some (meet_frames g f))
       kept e =
           let parts = or_parts waits (not (same_frame g (meet_frames g f))) e in
-          (parts.0, ap Some (same_frames g (meet_frames g f) (same (same_frame g (meet_frames g f)) parts.1)))
+          (parts.0, ap Some (same_frames g (meet_frames g f) (not-false (same_frame g (meet_frames g f)) parts.1)))
 
   joined_fits : (waits : Bool) (frame : Option TypeFrame) → IsFrameBounded m frame → IsDeep (length f.stack) frame → IsFrameBelow (Some f) (node_met (record { frame = frame; waits = waits }) frame f).frame
   joined_fits waits None c d = types_self f
@@ -57,20 +53,15 @@ module _ (m : MethodInfo) (f : TypeFrame) (b : IsBounded m f) where
     pub brought_risen : (code : List Insn) (nodes : List Node) → AreBounded m nodes → IsDeep (length f.stack) (frame_at code (frames_of nodes) to) → AreRisen nodes (brought code to f nodes)
     brought_risen [] nodes c d = all_risen_self nodes
     brought_risen (insn ∷ code) [] c d = tt
-    brought_risen (insn ∷ code) (node ∷ nodes) c d = by_test (insn.pc == to) d (λ d. brought_risen code nodes c.1 d)
-      where
-        by_test : (t : Bool) → IsDeep (length f.stack) (cond t node.frame (frame_at code (frames_of nodes) to))
-            → (IsDeep (length f.stack) (frame_at code (frames_of nodes) to) → AreRisen nodes (brought code to f nodes))
-            → AreRisen (node ∷ nodes) (cond t (node_met node node.frame f ∷ nodes) (node ∷ brought code to f nodes))
-        by_test true d more = (joined_risen node.waits node.frame c.0 d, all_risen_self nodes)
-        by_test false d more = ((all_risen_self (node ∷ [])).0, more d)
+    brought_risen (insn ∷ code) (node ∷ nodes) c d =
+        (elim (insn.pc == to) as (λ t. IsDeep (length f.stack) (cond t node.frame (frame_at code (frames_of nodes) to)) → AreRisen (node ∷ nodes) (cond t (node_met node node.frame f ∷ nodes) (node ∷ brought code to f nodes))) [
+          | true ↦ λ d. (joined_risen node.waits node.frame c.0 d, all_risen_self nodes)
+          | false ↦ λ d. ((all_risen_self (node ∷ [])).0, brought_risen code nodes c.1 d)
+        ]) d
 
     pub brought_bounded : (code : List Insn) (nodes : List Node) → AreBounded m nodes → AreBounded m (brought code to f nodes)
-    brought_bounded (insn ∷ code) (node ∷ nodes) c = by_test (insn.pc == to) (brought_bounded code nodes c.1)
-      where
-        by_test : (t : Bool) → AreBounded m (brought code to f nodes) → AreBounded m (cond t (node_met node node.frame f ∷ nodes) (node ∷ brought code to f nodes))
-        by_test true more = (joined_bounded node.waits node.frame c.0, c.1)
-        by_test false more = (c.0, more)
+    brought_bounded (insn ∷ code) (node ∷ nodes) c = cond_both (insn.pc == to) (node_met node node.frame f ∷ nodes) (node ∷ brought code to f nodes) (AreBounded m)
+        (λ e. (joined_bounded node.waits node.frame c.0, c.1)) (λ e. (c.0, brought_bounded code nodes c.1))
     brought_bounded code nodes c = c
 
     -- the depth at any pc stays

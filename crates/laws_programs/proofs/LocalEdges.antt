@@ -1,6 +1,6 @@
 -- What the nodes are after the normal edges of an instruction, and after those to its handlers.
-use Rattle.std.{proofs.Common.{◌≡◌, ℕ, Bool, true, false, cond, not, ◌&&◌, ◌||◌, List, [], ◌∷◌, length, Option, Some, None, Result, Ok, refl, sym, ◌∙◌, subst, arith, ◌==◌}, specs.List.AllByRecursion}
-use Rattle.std.proofs.lemmas.Bool.Decides.{nat_tests}
+use Rattle.std.{proofs.Common.{◌≡◌, ℕ, Bool, true, false, cond, ◌&&◌, List, [], ◌∷◌, length, Option, Some, None, Result, Ok, refl, sym, ◌∙◌, subst, arith, ◌==◌}, specs.List.AllByRecursion}
+use Rattle.std.proofs.lemmas.Bool.{cond_both, eqb-true, not-false, or_left, or_right, Decides.nat_tests}
 use Rattle.jvm_types.specs.{CodeGrammar.is_start, Numbers.has_number, Types.TypeFrame}
 use Rattle.jvm_types.specs.{Verifying.{Node, brought, all_brought, has_other_depth, clash, unless_caught, catch_fault, frame_at_handler, handled, frame_at, FrameFits}, declared.code.Insn.Insn}
 use Rattle.jvm_types.specs.declared.{program.{MethodInfo.MethodInfo, Row.Row}, refusal.VRule.VRule}
@@ -46,21 +46,11 @@ module _ (m : MethodInfo) (f : TypeFrame) (b : IsBounded m f) (code : List Insn)
 
 pub picks : (P : ℕ → Type 0) (tos : List ℕ) → ((to : ℕ) → has_number tos to ≡ true → P to) → AllByRecursion P tos
 picks P [] h = tt
-picks P (to ∷ tos) h = (h to (here (to == to) (grind (arith, nat_tests))), picks P tos (λ x e. h x (there (to == x) (has_number tos x) e)))
-  where
-    here : (t : Bool) → t ≡ true → (t || has_number tos to) ≡ true
-    here t e = rw e refl
-
-    there : (t u : Bool) → u ≡ true → (t || u) ≡ true
-    there true u e = refl
-    there false u e = e
+picks P (to ∷ tos) h = (h to (or_left (to == to) (has_number tos to) (grind (arith, nat_tests))), picks P tos (λ x e. h x (or_right (to == x) (has_number tos x) e)))
 
 same_depth : (frame : Option TypeFrame) (depth : ℕ) → has_other_depth frame depth ≡ false → IsDeep depth frame
 same_depth None depth e = tt
-same_depth (Some g) depth e = equal (length g.stack) e
-  where
-    equal : (n : ℕ) → not (n == depth) ≡ false → n ≡ depth
-    equal n e = grind (arith, nat_tests, e)
+same_depth (Some g) depth e = eqb-true (length g.stack) depth (not-false (length g.stack == depth) e)
 
 pub unclashed : (t : Bool) (pc : ℕ) (more : Option ℕ) → cond t (Some pc) more ≡ None → (t ≡ false) × (more ≡ None)
 unclashed true pc more e = absurd (cc)
@@ -73,14 +63,9 @@ second_false false u e f = absurd (cc)
 clash_deep : (tos : List ℕ) (depth to : ℕ) → has_number tos to ≡ true → (code : List Insn) (nodes : List Node) → clash code tos depth nodes ≡ None → IsDeep depth (frame_at code (frames_of nodes) to)
 clash_deep tos depth to h (insn ∷ code) (node ∷ nodes) e =
     let parts = unclashed (has_number tos insn.pc && has_other_depth node.frame depth) insn.pc (clash code tos depth nodes) e in
-    by_test (insn.pc == to) refl parts.0 (clash_deep tos depth to h code nodes parts.1)
-  where
-    by_test : (t : Bool) → (insn.pc == to) ≡ t → (has_number tos insn.pc && has_other_depth node.frame depth) ≡ false → IsDeep depth (frame_at code (frames_of nodes) to)
-        → IsDeep depth (cond t node.frame (frame_at code (frames_of nodes) to))
-    by_test true e g more =
-        let same : to ≡ insn.pc = grind (arith, nat_tests, e) in
-        same_depth node.frame depth (second_false (has_number tos insn.pc) (has_other_depth node.frame depth) g (subst (λ (pc : ℕ). has_number tos pc ≡ true) same h))
-    by_test false e g more = more
+    cond_both (insn.pc == to) node.frame (frame_at code (frames_of nodes) to) (IsDeep depth)
+    (λ e. same_depth node.frame depth (second_false (has_number tos insn.pc) (has_other_depth node.frame depth) parts.0 (subst (λ (pc : ℕ). has_number tos pc ≡ true) (sym (eqb-true insn.pc to e)) h)))
+    (λ e. clash_deep tos depth to h code nodes parts.1)
 clash_deep tos depth to h code nodes e = tt
 
 pub edges_deep : (code : List Insn) (tos : List ℕ) (depth : ℕ) (nodes : List Node) → clash code tos depth nodes ≡ None → AreDeep code depth nodes tos

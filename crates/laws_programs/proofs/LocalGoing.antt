@@ -1,10 +1,10 @@
 -- What holds in the course of the visits of a method: each instruction that has a frame and does not wait is sound.
-use Rattle.std.proofs.Common.{◌≡◌, ℕ, zero, suc, ◌<◌, Bool, true, false, cond, List, [], ◌∷◌, map, length, Option, Some, None, Ok, ◌⊎◌, inl, inr, refl, sym, ap, ◌∙◌, subst, length-set, arith, ◌==◌, slice_get, slice_set}
+use Rattle.std.proofs.Common.{◌≡◌, ℕ, zero, suc, ◌<◌, Bool, true, false, List, [], ◌∷◌, map, length, Option, Some, None, Ok, ◌⊎◌, ⊎_elim, inl, inr, refl, sym, ap, ◌∙◌, subst, length-set, arith, ◌==◌, slice_get, slice_set}
 use Rattle.std.{specs.List.{filter, AllByRecursion, AllZip}, proofs.lemmas.{Bool.{cond_both, Decides.nat_tests}, List.length-map}}
 use Rattle.jvm_types.specs.{CodeGrammar.{is_start, IsStart, SpellsInsns, RowFits}, CodeTable.{row, branches_to}, Types.{TypeFrame, entry_type_frame}}
-use Rattle.jvm_types.specs.Verifying.{Node, node_at, covers, first_nodes, visited, waiting_from, next_visit, Visits, frame_at, FrameFits, IsFrameBelow, IsSound, IsAssignment, IsLaidOut, LocalLaw}
+use Rattle.jvm_types.specs.Verifying.{Node, node_at, covers, first_nodes, visited, waiting_from, next_visit, Visits, FrameFits, IsFrameBelow, IsSound, IsAssignment, IsLaidOut, LocalLaw}
 use Rattle.jvm_types.specs.declared.{class_file.Handler.Handler, code.Insn.Insn, program.{MethodInfo.MethodInfo, Program.Program, Row.Row, Target.Target}}
-use Rattle.laws_programs.proofs.{FrameBounds.entry_bounded, LocalBrought.AreBounded, LocalEdges.{Carries, unclashed}, LocalRisen.{frame_self, IsRisen, risen_at, risen_length, frames_of, fits_risen}}
+use Rattle.laws_programs.proofs.{FrameBounds.entry_bounded, LocalBrought.AreBounded, LocalEdges.{Carries, unclashed}, LocalRisen.{frame_self, risen_at, risen_length, frames_of, fits_risen}}
 use Rattle.laws_programs.proofs.{LocalVisit.{Leads, sound_risen, cleared_frames, visit_carries, visit_sound}, VisitsEnd.cleared}
 
 -- ---- a method that is laid out
@@ -60,11 +60,7 @@ first_bounded m [] = tt
 first_bounded m (insn ∷ code) = (entry_bounded m, none_bounded m code)
 
 first_entry : (m : MethodInfo) (insn : Insn) (code : List Insn) → insn.pc ≡ 0 → FrameFits (insn ∷ code) (frames_of (first_nodes m (insn ∷ code))) (entry_type_frame m) 0
-first_entry m insn code e = by_test (insn.pc == 0) (grind (arith, nat_tests, e))
-  where
-    by_test : (t : Bool) → t ≡ true → IsFrameBelow (Some (entry_type_frame m)) (cond t (Some (entry_type_frame m)) (frame_at code (frames_of (map (λ other. record { frame = None; waits = false }) code)) 0))
-    by_test true e = frame_self (Some (entry_type_frame m))
-    by_test false e = absurd (cc)
+first_entry m insn code e = cond_both (insn.pc == 0) (Some (entry_type_frame m)) _ (IsFrameBelow (Some (entry_type_frame m))) (λ t. frame_self (Some (entry_type_frame m))) (λ t. absurd (grind (arith, nat_tests, e, t)))
 
 some_same : {a b : Node} → Some a ≡ Some b → a ≡ b
 some_same e = cc
@@ -83,22 +79,15 @@ pub first_going : (p : Program) (m : MethodInfo) → IsLaidOut m → IsGoing p m
 first_going p m laid = record {
   long = first_long m m.code;
   bounded = first_bounded m m.code;
-  entry = enters (begins m laid);
+  entry = let b = begins m laid in subst (λ (code : List Insn). FrameFits code (frames_of (first_nodes m code)) (entry_type_frame m) 0) (sym b.2) (first_entry m b.0 b.1 b.3);
   sound = λ i node insn target f e w c t g. let none : Some f ≡ None = sym g ∙ first_waits m m.code i node e w in absurd (cc);
 }
-  where
-    enters : ((insn : Insn) × (code : List Insn) × (m.code ≡ insn ∷ code) × (insn.pc ≡ 0)) → FrameFits m.code (frames_of (first_nodes m m.code)) (entry_type_frame m) 0
-    enters b = subst (λ (code : List Insn). FrameFits code (frames_of (first_nodes m code)) (entry_type_frame m) 0) (sym b.2) (first_entry m b.0 b.1 b.3)
 
 -- ---- one visit
 
 pub got_set : {A : Type 0} (xs : List A) (i j : ℕ) (x y : A) → slice_get (slice_set xs i x) j ≡ Some y → ((j ≡ i) × (x ≡ y)) ⊎ (slice_get xs j ≡ Some y)
 got_set (a ∷ xs) zero zero x y e = inl (refl, cc)
-got_set (a ∷ xs) (suc i) (suc j) x y e = further (got_set xs i j x y e)
-  where
-    further : ((j ≡ i) × (x ≡ y)) ⊎ (slice_get xs j ≡ Some y) → ((suc j ≡ suc i) × (x ≡ y)) ⊎ (slice_get xs j ≡ Some y)
-    further (inl h) = inl (ap suc h.0, h.1)
-    further (inr h) = inr h
+got_set (a ∷ xs) (suc i) (suc j) x y e = ⊎_elim (λ h. inl (ap suc h.0, h.1)) (λ h. inr h) (got_set xs i j x y e)
 got_set xs i j x y e = inr e
 
 visit_goes : (p : Program) (m : MethodInfo) (nodes mid : List Node) (i : ℕ) → IsLaidOut m → IsGoing p m nodes → visited p m i nodes ≡ Ok mid → IsGoing p m mid
@@ -106,7 +95,9 @@ visit_goes p m nodes mid i laid going made = record {
   long = sym (risen_length (cleared nodes i) mid carries.risen) ∙ length-set _ _ _ ∙ going.long;
   bounded = carries.bounded;
   entry = fits_risen m.code (cleared nodes i) mid (entry_type_frame m) 0 carries.risen (as_cleared (λ fs. FrameFits m.code fs (entry_type_frame m) 0) going.entry);
-  sound = λ j b insn target f e w c t g. sound j b insn target f (risen_at (cleared nodes i) mid j b carries.risen e) w c t g;
+  sound = λ j b insn target f e w c t g.
+      let a = risen_at (cleared nodes i) mid j b carries.risen e in
+      from_either j a.0 insn target f (got_set nodes i j (record (node_at nodes i) { waits = false }) a.0 a.1) (a.2.kept w).0 c t ((a.2.kept w).1 ∙ g);
 }
   where
     carries : Carries m (cleared nodes i) mid
@@ -123,11 +114,6 @@ visit_goes p m nodes mid i laid going made = record {
     from_either j a insn target f (inr h) w c t g =
         sound_risen m insn (row p m insn.pc target insn.op) f (cleared nodes i) mid carries.risen
         (as_cleared (λ fs. IsSound m insn (row p m insn.pc target insn.op) fs f) (going.sound j a insn target f h w c t g))
-
-    sound : (j : ℕ) (b : Node) (insn : Insn) (target : Target) (f : TypeFrame) → ((a : Node) × (slice_get (cleared nodes i) j ≡ Some a) × IsRisen a b) → b.waits ≡ false
-        → slice_get m.code j ≡ Some insn → slice_get m.targets j ≡ Some target → b.frame ≡ Some f → IsSound m insn (row p m insn.pc target insn.op) (frames_of mid) f
-    sound j b insn target f a w c t g =
-        from_either j a.0 insn target f (got_set nodes i j (record (node_at nodes i) { waits = false }) a.0 a.1) (a.2.kept w).0 c t ((a.2.kept w).1 ∙ g)
 
 -- ---- all visits
 
@@ -148,15 +134,8 @@ frame_from (a ∷ nodes) (suc i) frame e = frame_from nodes i frame e
 pub local_law : LocalLaw
 local_law p m frames laid typed =
     let ends = all_go p m laid typed.visits (first_nodes m m.code) typed.last (first_going p m laid) typed.made in
-    subst (λ (fs : List (Option TypeFrame)). IsAssignment p m fs) (sym typed.are) (assigns typed.last ends.0 ends.1)
-  where
-    assigns : (last : List Node) → IsGoing p m last → next_visit last ≡ None → IsAssignment p m (frames_of last)
-    assigns last going none = record {
-      long = length-map last _ ∙ going.long;
-      entry = going.entry;
-      sound = λ i insn target f c t e. sound i insn target f c t (frame_from last i (Some f) e);
-    }
-      where
-        sound : (i : ℕ) (insn : Insn) (target : Target) (f : TypeFrame) → slice_get m.code i ≡ Some insn → slice_get m.targets i ≡ Some target
-            → ((node : Node) × (slice_get last i ≡ Some node) × (node.frame ≡ Some f)) → IsSound m insn (row p m insn.pc target insn.op) (frames_of last) f
-        sound i insn target f c t n = going.sound i n.0 insn target f n.1 (rests 0 last i n.0 none n.1) c t n.2
+    subst (λ (fs : List (Option TypeFrame)). IsAssignment p m fs) (sym typed.are) (record {
+      long = length-map typed.last _ ∙ ends.0.long;
+      entry = ends.0.entry;
+      sound = λ i insn target f c t e. let n = frame_from typed.last i (Some f) e in ends.0.sound i n.0 insn target f n.1 (rests 0 typed.last i n.0 ends.1 n.1) c t n.2;
+    })

@@ -61,12 +61,11 @@ frames_of nodes = map (λ node. node.frame) nodes
 
 frame_at_risen : (code : List Insn) (xs ys : List Node) (pc : ℕ) → AreRisen xs ys → IsFrameBelow (frame_at code (frames_of xs) pc) (frame_at code (frames_of ys) pc)
 frame_at_risen (insn ∷ code) (a ∷ xs) [] pc h = absurd h
-frame_at_risen (insn ∷ code) (a ∷ xs) (b ∷ ys) pc h = by_test (insn.pc == pc) (frame_at_risen code xs ys pc h.1)
-  where
-    by_test : (t : Bool) → IsFrameBelow (frame_at code (frames_of xs) pc) (frame_at code (frames_of ys) pc)
-        → IsFrameBelow (cond t a.frame (frame_at code (frames_of xs) pc)) (cond t b.frame (frame_at code (frames_of ys) pc))
-    by_test true more = h.0.frame
-    by_test false more = more
+frame_at_risen (insn ∷ code) (a ∷ xs) (b ∷ ys) pc h =
+    elim (insn.pc == pc) as (λ t. IsFrameBelow (cond t a.frame (frame_at code (frames_of xs) pc)) (cond t b.frame (frame_at code (frames_of ys) pc))) [
+      | true ↦ h.0.frame
+      | false ↦ frame_at_risen code xs ys pc h.1
+    ]
 frame_at_risen code xs ys pc h = tt
 
 -- what fits goes on to fit

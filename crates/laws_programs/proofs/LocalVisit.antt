@@ -1,6 +1,6 @@
 -- One visit: no rule is broken at the instruction, and what it brings fits.
 use Rattle.std.proofs.Common.{◌≡◌, ℕ, zero, suc, Bool, true, false, cond, not, ◌&&◌, ◌||◌, List, [], ◌∷◌, length, Option, Some, None, Result, Ok, refl, sym, ap, ◌∙◌, subst, length-set, ◌==◌, slice_get}
-use Rattle.std.specs.List.{AllByRecursion, list_any}
+use Rattle.std.{specs.List.{AllByRecursion, list_any}, proofs.lemmas.Bool.not-false}
 use Rattle.jvm_types.specs.{CodeGrammar.is_start, CodeTable.{row, branches_to, falls_through}, Types.TypeFrame}
 use Rattle.jvm_types.specs.Verifying.{Node, node_at, broken_before, broken_after, returns_wrongly, falls_off, edges, frame_after, all_brought, clash, covering, handled, unless_broken, unless_clash, gone_on, visited_row, visited_insn, visited, frame_at_handler, FrameFits, IsSound}
 use Rattle.jvm_types.specs.declared.{code.Insn.Insn, op_row.OpRow.OpRow, program.{MethodInfo.MethodInfo, Program.Program, Row.Row, Target.Target}, refusal.VRule.{VRule, TheVariants.{V6, V8}}}
@@ -21,11 +21,7 @@ start_is (insn ∷ code) pc = ap (λ (b : Bool). (insn.pc == pc) || b) (start_is
 
 next_starts : (code : List Insn) (next : ℕ) (falls : Bool) → (falls && not (is_start code next)) ≡ false → AllByRecursion (λ to. is_start code to ≡ true) (cond falls (next ∷ []) [])
 next_starts code next false e = tt
-next_starts code next true e = (there (is_start code next) e, tt)
-  where
-    there : (t : Bool) → not t ≡ false → t ≡ true
-    there true e = refl
-    there false e = absurd (cc)
+next_starts code next true e = (not-false (is_start code next) e, tt)
 
 edges_start : (m : MethodInfo) (insn : Insn) → Leads m insn → falls_off m.code insn ≡ false → AllByRecursion (λ to. is_start m.code to ≡ true) (edges insn)
 edges_start m insn h e =

@@ -1,6 +1,6 @@
 -- What a row does to two frames of which one is below the other, where its `<init>` is called on what it may be.
 use Rattle.std.proofs.Common.{◌≡◌, ℕ, zero, suc, Bool, true, false, not, ◌||◌, List, [], ◌∷◌, ◌++◌, length, map, drop, Option, Some, None, refl, ap, sym, subst, ◌∙◌, slice_set, slice_index_or, if◌then◌else◌}
-use Rattle.std.proofs.lemmas.Bool.{and_parts, and_from, or_parts}
+use Rattle.std.proofs.lemmas.Bool.{and_parts, and_from, not-false, or_parts}
 use Rattle.jvm_types.specs.{CodeTable.{value_of, stack_after, locals_after}, Types.{TypeFrame, is_below, is_uninitialised, same_type, all_pairs, frame_below}}
 use Rattle.jvm_types.specs.{Verifying.{suits, some_taken, started, initialised, after_start, frame_after}, declared.op_row.{Given.{Given, TheVariants.{Fresh, Taken, Local}}, OpRow.OpRow, Want.Want}}
 use Rattle.jvm_types.specs.declared.{op_row.Want.TheVariants.{AnyValue, AnInt, AnObject, AnyReference, AHolder, ToStart}, program.MethodInfo.MethodInfo, typing.VType.VType}
@@ -73,11 +73,7 @@ abbrev pub mismatch : MethodInfo → Want → VType → Bool
 mismatch m want t = not (suits m want t)
 
 suits_here : (m : MethodInfo) (want : Want) (wants : List Want) (u : VType) (us : List VType) → some_taken (mismatch m) (want ∷ wants) (u ∷ us) ≡ false → suits m want u ≡ true
-suits_here m want wants u us h = by_value (suits m want u) (or_parts (mismatch m want u) (some_taken (mismatch m) wants us) h).0
-  where
-    by_value : (b : Bool) → not b ≡ false → b ≡ true
-    by_value true e = refl
-    by_value false e = absurd (cc)
+suits_here m want wants u us h = not-false (suits m want u) (or_parts (mismatch m want u) (some_taken (mismatch m) wants us) h).0
 
 suit_after : (m : MethodInfo) (want : Want) (wants : List Want) (u : VType) (us : List VType) → some_taken (mismatch m) (want ∷ wants) (u ∷ us) ≡ false → some_taken (mismatch m) wants us ≡ false
 suit_after m want wants u us h = (or_parts (mismatch m want u) (some_taken (mismatch m) wants us) h).1
@@ -125,10 +121,9 @@ initialised_below o class e (t ∷ ts) (u ∷ us) h = cons_below (if same_type o
 initialised_below o class e ts us h = absurd (cc)
 
 ready_both : (a b c : Bool) → (a || not b) ≡ true → ((a || c) || not (b || c)) ≡ true
-ready_both true b c h = refl
 ready_both false true c h = absurd (cc)
 ready_both false false true h = refl
-ready_both false false false h = refl
+ready_both a b c h = refl
 
 start_below : (o : Option (VType × ℕ)) (f g : TypeFrame) → IsUnstarted o → frame_below f g ≡ true → frame_below (after_start o f) (after_start o g) ≡ true
 start_below None f g e h = h

@@ -1,5 +1,5 @@
 -- Of a type that suits a want every type below it does, and uninitialised types are below themselves and Top alone.
-use Rattle.std.proofs.{Common.{◌≡◌, ℕ, Bool, true, false, ◌||◌, ◌⊎◌, refl, ap, sym, subst, inl, inr, ◌∙◌, arith, eqb-true, if◌then◌else◌}, lemmas.Bool.{or_cases, or_left, or_right, Decides.nat_tests}}
+use Rattle.std.proofs.{Common.{◌≡◌, ℕ, Bool, true, false, ◌||◌, ◌⊎◌, ⊎_elim, refl, ap, sym, subst, inl, inr, ◌∙◌, arith, eqb-true, if◌then◌else◌}, lemmas.Bool.{or_cases, or_left, or_right, Decides.nat_tests}}
 use Rattle.jvm_types.specs.{Types.{is_below, is_uninitialised, same_type}, Verifying.suits, declared.{class_numbers.TheConstants.OBJECT_CLASS, op_row.Want.Want}}
 use Rattle.jvm_types.specs.declared.{op_row.Want.TheVariants.{AnyValue, AnInt, AnObject, AnyReference, AHolder, ToStart}, program.MethodInfo.MethodInfo, typing.VType.VType}
 use Rattle.jvm_types.{specs.declared.typing.VType.TheVariants.{Int, Ref, This, New, Top}, proofs.TypeOrder.{below_top, below_trans, subclass_self}}
@@ -40,11 +40,8 @@ same_below o t u e h s =
 
 -- and where it is not, but one below it is, nothing is known of it
 same_above : (o t u : VType) → is_uninitialised o ≡ true → is_below t u ≡ true → same_type o t ≡ true → same_type o u ≡ false → u ≡ Top
-same_above o t u e h s d = by_case (above_object o u e (subst (λ (v : VType). is_below v u ≡ true) (sym (same_object o t e s)) h))
-  where
-    by_case : (o ≡ u) ⊎ (u ≡ Top) → u ≡ Top
-    by_case (inl at) = let s : same_type o u ≡ true = subst (λ (v : VType). same_type o v ≡ true) at (same_self o e) in absurd (cc)
-    by_case (inr top) = top
+same_above o t u e h s d = ⊎_elim (λ (at : o ≡ u). let s : same_type o u ≡ true = subst (λ (v : VType). same_type o v ≡ true) at (same_self o e) in absurd (cc)) (λ (top : u ≡ Top). top)
+    (above_object o u e (subst (λ (v : VType). is_below v u ≡ true) (sym (same_object o t e s)) h))
 
 pub one_initialised : (o : VType) (class : ℕ) (t u : VType) → is_uninitialised o ≡ true → is_below t u ≡ true
     → is_below (if same_type o t then Ref class else t) (if same_type o u then Ref class else u) ≡ true
@@ -71,11 +68,9 @@ holder_below m class This u h k = absurd (cc)
 holder_below m class t u h k = below_trans t u (Ref class) h k
 
 reference_below : (t u : VType) → is_below t u ≡ true → (is_uninitialised u || is_below u (Ref OBJECT_CLASS)) ≡ true → (is_uninitialised t || is_below t (Ref OBJECT_CLASS)) ≡ true
-reference_below t u h k = by_case (or_cases (is_uninitialised u) (is_below u (Ref OBJECT_CLASS)) k)
-  where
-    by_case : (is_uninitialised u ≡ true) ⊎ (is_below u (Ref OBJECT_CLASS) ≡ true) → (is_uninitialised t || is_below t (Ref OBJECT_CLASS)) ≡ true
-    by_case (inl e) = or_left (is_uninitialised t) (is_below t (Ref OBJECT_CLASS)) (subst (λ (v : VType). is_uninitialised v ≡ true) (sym (below_object t u e h)) e)
-    by_case (inr e) = or_right (is_uninitialised t) (is_below t (Ref OBJECT_CLASS)) (below_trans t u (Ref OBJECT_CLASS) h e)
+reference_below t u h k = ⊎_elim
+    (λ (e : is_uninitialised u ≡ true). or_left (is_uninitialised t) (is_below t (Ref OBJECT_CLASS)) (subst (λ (v : VType). is_uninitialised v ≡ true) (sym (below_object t u e h)) e))
+    (λ (e : is_below u (Ref OBJECT_CLASS) ≡ true). or_right (is_uninitialised t) (is_below t (Ref OBJECT_CLASS)) (below_trans t u (Ref OBJECT_CLASS) h e)) (or_cases (is_uninitialised u) (is_below u (Ref OBJECT_CLASS)) k)
 
 pub suits_below : (m : MethodInfo) (want : Want) (t u : VType) → is_below t u ≡ true → suits m want u ≡ true → suits m want t ≡ true
 suits_below m AnyValue t u h k = refl

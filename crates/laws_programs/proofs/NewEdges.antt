@@ -1,9 +1,9 @@
 -- A value that a `new` made and no `<init>` was called on stays behind its `new` along each edge.
 use Rattle.std.proofs.Common.{◌≡◌, ℕ, suc, ◌<◌, ◌≤◌, Bool, true, false, not, ◌&&◌, ◌||◌, List, [], ◌∷◌, None, refl, arith, ⊎_elim, ◌==◌, nat_le, if◌then◌else◌}
-use Rattle.std.{specs.List.{AllByRecursion, list_any, filter}, proofs.lemmas.Bool.{and_parts, cases_lt, eqb-true, le-leb, or_left, or_parts, or_right}}
+use Rattle.std.{specs.List.{AllByRecursion, list_any, filter}, proofs.lemmas.Bool.{and_parts, cases_lt, cond_both, eqb-true, le-leb, or_cases, or_left, or_parts, or_right}}
 use Rattle.jvm_types.specs.{CodeTable.{row, branches_to, falls_through}, Numbers.has_number, Types.{TypeFrame, is_below, all_pairs, is_new, is_uninitialised}}
 use Rattle.jvm_types.specs.{Verifying.{broken_before, some_operand, misuses, is_return, frame_after, frame_at_handler, covers}, declared.{code.{Insn.Insn, Op.Op}, program.MethodInfo.MethodInfo}}
-use Rattle.jvm_types.{specs.declared.{program.{Program.Program, Row.Row, Target.Target}, typing.VType.{VType, TheVariants.{Int, Null, Ref, This, New, Top}}}, proofs.EachAfter.all_append}
+use Rattle.jvm_types.{specs.declared.{program.{Program.Program, Row.Row, Target.Target}, typing.VType.{VType, TheVariants.{New, Top}}}, proofs.EachAfter.all_append}
 use Rattle.jvm_types.proofs.FrameOrder.{stack_below, locals_below}
 use Rattle.laws_programs.{specs.NewLaws.{IsNewBefore, AreBehind, NewStaysBehind, BehindRises}, proofs.{LocalEdges.{picks, second_false}, RowsKeep.{IsFine, IsFineWrite, types_fine, row_fine}}}
 use Rattle.laws_programs.proofs.RuleUses.{hold}
@@ -75,11 +75,8 @@ weaker (t ∷ ts) a = (one t a.0, weaker ts a.1)
 
 reaches_back : (pc : ℕ) (tos : List ℕ) (to : ℕ) → has_number tos to ≡ true → to ≤ pc → list_any (λ t. nat_le t pc) tos ≡ true
 reaches_back pc [] to b l = absurd (let bad : false ≡ true = b in cc)
-reaches_back pc (t ∷ tos) to b l = by_test (t == to) refl b (λ h. reaches_back pc tos to h l)
-  where
-    by_test : (x : Bool) → (t == to) ≡ x → (x || has_number tos to) ≡ true → (has_number tos to ≡ true → list_any (λ u. nat_le u pc) tos ≡ true) → (nat_le t pc || list_any (λ u. nat_le u pc) tos) ≡ true
-    by_test true e h more = or_left (nat_le t pc) (list_any (λ u. nat_le u pc) tos) (le-leb t pc (omega (arith, l, eqb-true t to e)))
-    by_test false e h more = or_right (nat_le t pc) (list_any (λ u. nat_le u pc) tos) (more h)
+reaches_back pc (t ∷ tos) to b l = ⊎_elim (λ (e : (t == to) ≡ true). or_left (nat_le t pc) (list_any (λ u. nat_le u pc) tos) (le-leb t pc (omega (arith, l, eqb-true t to e))))
+    (λ (h : has_number tos to ≡ true). or_right (nat_le t pc) (list_any (λ u. nat_le u pc) tos) (reaches_back pc tos to h l)) (or_cases (t == to) (has_number tos to) b)
 
 module _ (p : Program) (m : MethodInfo) (insn : Insn) (target : Target) (f : TypeFrame) (ok : broken_before m insn (row p m insn.pc target insn.op) f ≡ None) (a : AreBehind insn.pc f) where
   after_all : AreBehind (suc insn.pc) (frame_after m (row p m insn.pc target insn.op) f)
@@ -113,11 +110,9 @@ next_behind pc next true f h a = (record { stack = rises (suc pc) next h f.stack
 -- what holds of each row where some row covers holds of the rows that do
 covering_all : (P : Row → Type 0) (pc : ℕ) (rows : List Row) → ((handler : Row) → list_any (covers pc) rows ≡ true → P handler) → AllByRecursion P (filter (covers pc) rows)
 covering_all P pc [] h = tt
-covering_all P pc (r ∷ rows) h = by_test (covers pc r) refl (covering_all P pc rows (λ handler e. h handler (or_right (covers pc r) (list_any (covers pc) rows) e)))
-  where
-    by_test : (t : Bool) → covers pc r ≡ t → AllByRecursion P (filter (covers pc) rows) → AllByRecursion P (if t then r ∷ filter (covers pc) rows else filter (covers pc) rows)
-    by_test true e more = (h r (or_left (covers pc r) (list_any (covers pc) rows) e), more)
-    by_test false e more = more
+covering_all P pc (r ∷ rows) h =
+    let more : AllByRecursion P (filter (covers pc) rows) = covering_all P pc rows (λ handler e. h handler (or_right (covers pc r) (list_any (covers pc) rows) e)) in
+    cond_both (covers pc r) (r ∷ filter (covers pc) rows) (filter (covers pc) rows) (AllByRecursion P) (λ e. (h r (or_left (covers pc r) (list_any (covers pc) rows) e), more)) (λ e. more)
 
 pub stays_behind : NewStaysBehind
 stays_behind p m insn target f after ok a =

@@ -1,6 +1,6 @@
 -- In the course of the visits each value that a `new` made and no `<init>` was called on is behind its `new`.
 use Rattle.std.proofs.Common.{◌≡◌, ℕ, zero, suc, ◌-◌, ◌<◌, Bool, true, false, cond, List, [], ◌∷◌, ◌++◌, length, map, replicate, Option, Some, None, Ok, refl, sym, ap, subst, arith, ◌==◌, slice_get}
-use Rattle.std.{specs.List.AllByRecursion, proofs.lemmas.Bool.eqb-true}
+use Rattle.std.{specs.List.AllByRecursion, proofs.lemmas.Bool.{cond_both, eqb-true}}
 use Rattle.jvm_types.specs.{CodeGrammar.SpellsInsns, CodeTable.{row, type_of, is_init}, Members.is_static, Types.{TypeFrame, if_same_place, meet, meets, receiver_types, entry_type_frame}}
 use Rattle.jvm_types.specs.Verifying.{Node, node_at, first_nodes, node_met, brought, all_brought, handled, covering, frame_at_handler, frame_after, edges, clash, catch_fault, broken_before, broken_after, gone_on, visited_row, visited_insn, visited, Visits}
 use Rattle.jvm_types.specs.declared.{code.Insn.Insn, op_row.OpRow.OpRow, program.{Kind.Kind, MethodInfo.MethodInfo, Program.Program, Row.Row, Target.Target}, typing.VType.VType}
@@ -44,11 +44,7 @@ meet_behind pc Null (Ref class) h = tt
 meet_behind pc (Ref class) Null h = tt
 meet_behind pc (Ref class) (Ref other) h = tt
 meet_behind pc This This h = tt
-meet_behind pc (New p) (New q) h = by_test (p == q) h
-  where
-    by_test : (t : Bool) → p < pc → IsNewBefore pc (if_same_place t (New p))
-    by_test true h = h
-    by_test false h = tt
+meet_behind pc (New p) (New q) h = elim (p == q) as (λ t. IsNewBefore pc (if_same_place t (New p))) [ true ↦ h | false ↦ tt ]
 meet_behind pc t u h = tt
 
 meets_behind : (pc : ℕ) (ts us : List VType) → AllByRecursion (IsNewBefore pc) ts → AllByRecursion (IsNewBefore pc) (meets ts us)
@@ -96,12 +92,8 @@ joined_behind pc node None f h k = h
 joined_behind pc node (Some g) f h k = record { stack = meets_behind pc g.stack f.stack k.stack; locals = meets_behind pc g.locals f.locals k.locals }
 
 brought_behind : (code : List Insn) (to : ℕ) (f : TypeFrame) (nodes : List Node) → AreBehind to f → AllBehind code (frames_of nodes) → AllBehind code (frames_of (brought code to f nodes))
-brought_behind (insn ∷ code) to f (node ∷ nodes) h k = by_test (insn.pc == to) refl (brought_behind code to f nodes h k.1)
-  where
-    by_test : (t : Bool) → (insn.pc == to) ≡ t → AllBehind code (frames_of (brought code to f nodes))
-        → AllBehind (insn ∷ code) (frames_of (cond t (node_met node node.frame f ∷ nodes) (node ∷ brought code to f nodes)))
-    by_test true e more = (joined_behind insn.pc node node.frame f (subst (λ (pc : ℕ). AreBehind pc f) (sym (eqb-true insn.pc to e)) h) k.0, k.1)
-    by_test false e more = (k.0, more)
+brought_behind (insn ∷ code) to f (node ∷ nodes) h k = cond_both (insn.pc == to) (node_met node node.frame f ∷ nodes) (node ∷ brought code to f nodes) (λ ns. AllBehind (insn ∷ code) (frames_of ns))
+    (λ e. (joined_behind insn.pc node node.frame f (subst (λ (pc : ℕ). AreBehind pc f) (sym (eqb-true insn.pc to e)) h) k.0, k.1)) (λ e. (k.0, brought_behind code to f nodes h k.1))
 brought_behind code to f nodes h k = k
 
 all_brought_behind : (code : List Insn) (tos : List ℕ) (f : TypeFrame) (nodes : List Node) → AllByRecursion (λ to. AreBehind to f) tos → AllBehind code (frames_of nodes) → AllBehind code (frames_of (all_brought code tos f nodes))

@@ -27,8 +27,7 @@ one_last p m nodes last other [] [] v w = v.1 ∙ sym w.1
 one_last p m nodes last other [] (j ∷ js) v w = absurd (some_waits (next_visit nodes) j v.0 w.0)
 one_last p m nodes last other (i ∷ is) [] v w = absurd (some_waits (next_visit nodes) i w.0 v.0)
 one_last p m nodes last other (i ∷ is) (j ∷ js) v w =
-    let here : j ≡ i = one_waits (next_visit nodes) j i w.0 v.0 in
-    let mid : w.1 ≡ v.1 = one_mid (visited p m i nodes) w.1 v.1 (subst (λ (k : ℕ). visited p m k nodes ≡ Ok w.1) here w.2) v.2 in
+    let mid : w.1 ≡ v.1 = one_mid (visited p m i nodes) w.1 v.1 (subst (λ (k : ℕ). visited p m k nodes ≡ Ok w.1) (one_waits (next_visit nodes) j i w.0 v.0) w.2) v.2 in
     one_last p m v.1 last other is js v.3 (subst (λ (n : List Node). Visits p m n js other) mid w.3)
 
 -- visits that end break no rule
@@ -37,26 +36,20 @@ none_breaks p m nodes last is [] fault v b = b
 none_breaks p m nodes last [] (j ∷ []) fault v b = some_waits (next_visit nodes) j v.0 b.0
 none_breaks p m nodes last [] (j ∷ k ∷ js) fault v b = some_waits (next_visit nodes) j v.0 b.0
 none_breaks p m nodes last (i ∷ is) (j ∷ []) fault v b =
-    let here : j ≡ i = one_waits (next_visit nodes) j i b.0 v.0 in
-    goes_on (visited p m i nodes) v.1 fault v.2 (subst (λ (k : ℕ). visited p m k nodes ≡ Err fault) here b.1)
+    goes_on (visited p m i nodes) v.1 fault v.2 (subst (λ (k : ℕ). visited p m k nodes ≡ Err fault) (one_waits (next_visit nodes) j i b.0 v.0) b.1)
 none_breaks p m nodes last (i ∷ is) (j ∷ k ∷ js) fault v b =
-    let here : j ≡ i = one_waits (next_visit nodes) j i b.0 v.0 in
-    let mid : b.1 ≡ v.1 = one_mid (visited p m i nodes) b.1 v.1 (subst (λ (n : ℕ). visited p m n nodes ≡ Ok b.1) here b.2) v.2 in
+    let mid : b.1 ≡ v.1 = one_mid (visited p m i nodes) b.1 v.1 (subst (λ (n : ℕ). visited p m n nodes ≡ Ok b.1) (one_waits (next_visit nodes) j i b.0 v.0) b.2) v.2 in
     none_breaks p m v.1 last is (k ∷ js) fault v.3 (subst (λ (n : List Node). Breaks p m n (k ∷ js) fault) mid b.3)
 
 one_break : (p : Program) (m : MethodInfo) (nodes : List Node) (is js : List ℕ) (fault other : VRule × ℕ) → Breaks p m nodes is fault → Breaks p m nodes js other → fault ≡ other
 one_break p m nodes (i ∷ []) (j ∷ []) fault other a b =
-    let here : j ≡ i = one_waits (next_visit nodes) j i b.0 a.0 in
-    one_fault (visited p m i nodes) fault other a.1 (subst (λ (n : ℕ). visited p m n nodes ≡ Err other) here b.1)
+    one_fault (visited p m i nodes) fault other a.1 (subst (λ (n : ℕ). visited p m n nodes ≡ Err other) (one_waits (next_visit nodes) j i b.0 a.0) b.1)
 one_break p m nodes (i ∷ []) (j ∷ k ∷ js) fault other a b =
-    let here : j ≡ i = one_waits (next_visit nodes) j i b.0 a.0 in
-    absurd (goes_on (visited p m i nodes) b.1 fault (subst (λ (n : ℕ). visited p m n nodes ≡ Ok b.1) here b.2) a.1)
+    absurd (goes_on (visited p m i nodes) b.1 fault (subst (λ (n : ℕ). visited p m n nodes ≡ Ok b.1) (one_waits (next_visit nodes) j i b.0 a.0) b.2) a.1)
 one_break p m nodes (i ∷ h ∷ is) (j ∷ []) fault other a b =
-    let here : j ≡ i = one_waits (next_visit nodes) j i b.0 a.0 in
-    absurd (goes_on (visited p m i nodes) a.1 other a.2 (subst (λ (n : ℕ). visited p m n nodes ≡ Err other) here b.1))
+    absurd (goes_on (visited p m i nodes) a.1 other a.2 (subst (λ (n : ℕ). visited p m n nodes ≡ Err other) (one_waits (next_visit nodes) j i b.0 a.0) b.1))
 one_break p m nodes (i ∷ h ∷ is) (j ∷ k ∷ js) fault other a b =
-    let here : j ≡ i = one_waits (next_visit nodes) j i b.0 a.0 in
-    let mid : b.1 ≡ a.1 = one_mid (visited p m i nodes) b.1 a.1 (subst (λ (n : ℕ). visited p m n nodes ≡ Ok b.1) here b.2) a.2 in
+    let mid : b.1 ≡ a.1 = one_mid (visited p m i nodes) b.1 a.1 (subst (λ (n : ℕ). visited p m n nodes ≡ Ok b.1) (one_waits (next_visit nodes) j i b.0 a.0) b.2) a.2 in
     one_break p m a.1 (h ∷ is) (k ∷ js) fault other a.3 (subst (λ (n : List Node). Breaks p m n (k ∷ js) other) mid b.3)
 one_break p m nodes is js fault other a b = absurd (assumption)
 

@@ -1,6 +1,6 @@
 -- The orders of classes, types and frames are orders.
-use Rattle.std.{proofs.Common.{◌≡◌, ℕ, ◌⊎◌, inl, inr, Bool, true, false, not, ◌&&◌, ◌||◌, List, [], ◌∷◌, refl, sym, ap, subst, arith, ◌==◌}, specs.List.AllByRecursion}
-use Rattle.std.proofs.lemmas.Bool.{and_from, and_parts, eqb-true, Decides.nat_tests}
+use Rattle.std.{proofs.Common.{◌≡◌, ℕ, ◌⊎◌, ⊎_elim, inl, inr, Bool, true, false, not, ◌&&◌, ◌||◌, List, [], ◌∷◌, refl, sym, ap, subst, arith, ◌==◌}, specs.List.AllByRecursion}
+use Rattle.std.proofs.lemmas.Bool.{and_from, and_parts, eqb-true, or_cases, Decides.nat_tests}
 use Rattle.jvm_types.specs.{ClassTree.{super_class, ancestors, is_subclass, built_in_supers}, Numbers.has_number, Types.{TypeFrame, is_below, all_pairs, frame_below}, declared.typing.VType.VType}
 use Rattle.jvm_types.specs.declared.typing.VType.TheVariants.{Int, Null, Ref, This, New, Top}
 use Rattle.jvm_types.proofs.FrameOrder.{stack_below, locals_below, ready_below, types_self, types_trans, types_meet_left, types_meet_right, types_meet_least}
@@ -22,11 +22,8 @@ self_or_super c d h = pick (ancestors c) d h (λ e. inl e, (λ e. inr (super_is 
 
 each_number : (test : ℕ → Bool) (xs : List ℕ) (y : ℕ) → AllByRecursion (λ x. test x ≡ true) xs → has_number xs y ≡ true → test y ≡ true
 each_number test [] y all h = absurd (cc)
-each_number test (x ∷ xs) y all h = by_test (x == y) refl h (each_number test xs y all.1)
-  where
-    by_test : (t : Bool) → (x == y) ≡ t → (t || has_number xs y) ≡ true → (has_number xs y ≡ true → test y ≡ true) → test y ≡ true
-    by_test true e h more = subst (λ (n : ℕ). test n ≡ true) (eqb-true x y e) all.0
-    by_test false e h more = more h
+each_number test (x ∷ xs) y all h =
+    ⊎_elim (λ (e : (x == y) ≡ true). subst (λ (n : ℕ). test n ≡ true) (eqb-true x y e) all.0) (λ (e : has_number xs y ≡ true). each_number test xs y all.1 e) (or_cases (x == y) (has_number xs y) h)
 
 -- no two are below each other
 is_apart : ℕ → ℕ → Bool
@@ -35,16 +32,7 @@ is_apart c d = not (is_subclass c d && is_subclass d c) || (c == d)
 
 apart_all : AllByRecursion (λ c. AllByRecursion (λ d. is_apart c d ≡ true) (1 ∷ 4 ∷ 5 ∷ 6 ∷ 7 ∷ [])) (1 ∷ 4 ∷ 5 ∷ 6 ∷ 7 ∷ [])
 unfolding is_subclass is_apart
-apart_all = (
-  (refl, (refl, (refl, (refl, (refl, tt))))),
-  (
-    (refl, (refl, (refl, (refl, (refl, tt))))),
-    (
-      (refl, (refl, (refl, (refl, (refl, tt))))),
-      ((refl, (refl, (refl, (refl, (refl, tt))))), ((refl, (refl, (refl, (refl, (refl, tt))))), tt)),
-    ),
-  ),
-)
+apart_all = search
 
 -- each of the classes with subclasses stands once
 fewer : (c : ℕ) → has_number built_in_supers c ≡ true → has_number (1 ∷ 4 ∷ 5 ∷ 6 ∷ 7 ∷ []) c ≡ true

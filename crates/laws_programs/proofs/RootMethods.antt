@@ -1,6 +1,6 @@
 -- The roots of a program are static, and their descriptors say what they take.
-use Rattle.std.proofs.Common.{◌≡◌, ℕ, suc, ◌<◌, ◌⊎◌, ⊎_elim, Bool, true, false, not, ◌&&◌, ◌||◌, List, [], ◌∷◌, take, Some, None, refl, sym, ap, ◌∙◌, ◌==◌, bytes_eq, codes, slice_get}
-use Rattle.std.{specs.List.list_any, proofs.lemmas.{Bool.{and_from, and_parts, cases_order, eq-eqb, eqb-true, not-false, or_left, or_right, or_parts}, Slice.Eq.bytes_eq-Decides}}
+use Rattle.std.proofs.Common.{◌≡◌, ℕ, suc, ◌<◌, ⊎_elim, Bool, true, false, not, ◌&&◌, ◌||◌, List, [], ◌∷◌, take, Some, None, refl, sym, ap, ◌∙◌, ◌==◌, bytes_eq, codes, slice_get}
+use Rattle.std.{specs.List.list_any, proofs.lemmas.{Bool.{and_from, and_parts, cases_order, eq-eqb, eqb-true, not-false, or_cases, or_left, or_right, or_parts}, Slice.Eq.bytes_eq-Decides}}
 use Rattle.jvm_types.specs.{ClassNames.file_class, Descriptors.{Signature, method_signature}, LinkFaults.{is_run, is_entry}, Members.{is_static, is_synchronized, is_class_init_name}}
 use Rattle.jvm_types.specs.{ProgramInvariant.{IsProgram, IsMethodOf, is_same_method}, declared.program.{Kind.{Kind, TheVariants.Int}, MethodInfo.MethodInfo, Program.Program}}
 use Rattle.laws_programs.{specs.RootLaws.{IsRoot, ClassInitsAreRoots, EntriesAreRoots, RunIsRoot, RunIsThere, OneMethod}, proofs.{FieldOrder.before_at, LocalEdges.second_false}}
@@ -85,13 +85,9 @@ run_root p number m is e class h =
 -- ---- `run` is there
 
 found : {X : Type 0} (test : X → Bool) (xs : List X) → list_any test xs ≡ true → (i : ℕ) × (x : X) × (slice_get xs i ≡ Some x) × (test x ≡ true)
-found {X = X} test [] e = absurd (cc)
-found {X = X} test (x ∷ xs) e = by_test (test x) refl e (found test xs)
-  where
-    by_test : (t : Bool) → test x ≡ t → (t || list_any test xs) ≡ true → (list_any test xs ≡ true → (i : ℕ) × (y : X) × (slice_get xs i ≡ Some y) × (test y ≡ true))
-        → (i : ℕ) × (y : X) × (slice_get (x ∷ xs) i ≡ Some y) × (test y ≡ true)
-    by_test true h e more = (0, x, refl, h)
-    by_test false h e more = let m = more e in (suc m.0, m.1, m.2, m.3)
+found test [] e = absurd (cc)
+found test (x ∷ xs) e = ⊎_elim
+    (λ (h : test x ≡ true). (0, x, refl, h)) (λ (h : list_any test xs ≡ true). let m = found test xs h in (suc m.0, m.1, m.2, m.3)) (or_cases (test x) (list_any test xs) e)
 
 pub run_stands_there : RunIsThere
 run_stands_there p is some =
@@ -113,9 +109,6 @@ apart : (p : Program) (i j : ℕ) (m other : MethodInfo) → IsProgram p → sli
 apart p i j m other is e f h = before_at (λ (x : MethodInfo). is_same_method x other ≡ false) p.methods i j m (is.methods j other f).distinct e h
 
 pub one_method_stands : OneMethod
-one_method_stands p i j m other is e f same = ⊎_elim
-    (λ (h : i ≡ j). h)
-    (λ (h : (i < j) ⊎ (j < i)). ⊎_elim
-    (λ (k : i < j). let un = apart p i j m other is e f k in absurd (cc))
-    (λ (k : j < i). let un = apart p j i other m is f e k in let turned = same_turned m other same in absurd (cc)) h)
+one_method_stands p i j m other is e f same = ⊎_elim (λ (h : i ≡ j). h)
+    (λ h. ⊎_elim (λ (k : i < j). let un = apart p i j m other is e f k in absurd (cc)) (λ (k : j < i). let un = apart p j i other m is f e k in let turned = same_turned m other same in absurd (cc)) h)
     (cases_order i j)

@@ -1,9 +1,9 @@
 -- A property of types that every row keeps: what a row makes has it, and so what is there afterwards.
-use Rattle.std.proofs.Common.{ℕ, zero, suc, Bool, true, false, List, [], ◌∷◌, ◌++◌, map, Option, Some, None, drop, length, if◌then◌else◌, slice_get, slice_set, slice_index_or}
-use Rattle.std.specs.{List.AllByRecursion, Option.{option_map, option_to_list}}
+use Rattle.std.proofs.Common.{ℕ, zero, suc, List, [], ◌∷◌, ◌++◌, map, Option, Some, None, drop, length, slice_get, slice_set, slice_index_or}
+use Rattle.std.{specs.{List.AllByRecursion, Option.{option_map, option_to_list}}, proofs.lemmas.Bool.cond_both}
 use Rattle.jvm_types.specs.CodeTable.{type_of, row, constant_row, get_static_row, get_row, put_row, put_static_row, virtual_row, special_row, static_row, value_of, stack_after, locals_after}
 use Rattle.jvm_types.specs.{Types.{TypeFrame, same_type}, Verifying.{frame_after, after_start, started, initialised}, declared.class_numbers.TheConstants.{INT_ARRAY_CLASS, PRINT_STREAM_CLASS}}
-use Rattle.jvm_types.specs.declared.{code.Op.Op, op_row.{Given.{Given, TheVariants.{Fresh, Taken, Local}}, OpRow.OpRow}, program.{FieldInfo.FieldInfo, Kind.Kind, MethodInfo.MethodInfo}}
+use Rattle.jvm_types.specs.declared.{code.Op.Op, op_row.{Given.{Given, TheVariants.{Fresh, Taken, Local}}, OpRow.OpRow}, program.{Kind.Kind, MethodInfo.MethodInfo}}
 use Rattle.jvm_types.specs.declared.{program.{Program.Program, Target.Target}, typing.VType.{VType, TheVariants.{Int, Null, Ref, New, Top}}}
 use Rattle.jvm_types.specs.declared.code.Op.TheVariants as ops
 use Rattle.jvm_types.specs.declared.program.Kind.TheVariants as kinds
@@ -52,11 +52,7 @@ module _ (P : VType → Type 0) (top : P Top) where
 
   all_initialised : ((c : ℕ) → P (Ref c)) → (t : VType) (class : ℕ) (ts : List VType) → AllByRecursion P ts → AllByRecursion P (initialised t class ts)
   all_initialised refs t class [] a = tt
-  all_initialised refs t class (u ∷ ts) a = (one (same_type t u), all_initialised refs t class ts a.1)
-    where
-      one : (b : Bool) → P (if b then Ref class else u)
-      one true = refs class
-      one false = a.0
+  all_initialised refs t class (u ∷ ts) a = (cond_both (same_type t u) (Ref class) u P (λ e. refs class) (λ e. a.0), all_initialised refs t class ts a.1)
 
   after_fine : ((c : ℕ) → P (Ref c)) → (o : Option (VType × ℕ)) (f : TypeFrame) → AllByRecursion P f.stack → AllByRecursion P f.locals → AllByRecursion P (after_start o f).stack × AllByRecursion P (after_start o f).locals
   after_fine refs None f a b = (a, b)
@@ -80,44 +76,21 @@ module _ (P : VType → Type 0) (top : P Top) where
     abbrev pub FineRow : OpRow → Type 0
     FineRow r = AllByRecursion IsFine r.gives × IsFineWrite r.writes
 
-    get_static_fine : (f : Option FieldInfo) → FineRow (get_static_row f)
-    get_static_fine None = (tt, tt)
-    get_static_fine (Some f) = ((kind_fine f.kind, tt), tt)
-
-    get_fine : (f : Option FieldInfo) → FineRow (get_row f)
-    get_fine None = (tt, tt)
-    get_fine (Some f) = ((kind_fine f.kind, tt), tt)
-
-    put_static_fine : (f : Option FieldInfo) → FineRow (put_static_row f)
-    put_static_fine None = (tt, tt)
-    put_static_fine (Some f) = (tt, tt)
-
-    put_fine : (f : Option FieldInfo) → FineRow (put_row f)
-    put_fine None = (tt, tt)
-    put_fine (Some f) = (tt, tt)
-
-    virtual_fine : (c : Option MethodInfo) → FineRow (virtual_row c)
-    virtual_fine None = (tt, tt)
-    virtual_fine (Some c) = (result_fine c.result, tt)
-
-    special_fine : (c : Option MethodInfo) → FineRow (special_row c)
-    special_fine None = (tt, tt)
-    special_fine (Some c) = (result_fine c.result, tt)
-
-    static_fine : (c : Option MethodInfo) → FineRow (static_row c)
-    static_fine None = (tt, tt)
-    static_fine (Some c) = (result_fine c.result, tt)
+    -- the row of what is found, or of nothing
+    found_fine : {A : Type 0} (row_by : Option A → OpRow) → FineRow (row_by None) → ((x : A) → FineRow (row_by (Some x))) → (o : Option A) → FineRow (row_by o)
+    found_fine row_by none some None = none
+    found_fine row_by none some (Some x) = some x
 
     constant_fine : (p : Program) (pc : ℕ) → P (New pc) → (target : Target) (op : Op) → FineRow (constant_row p pc target op)
     constant_fine p pc new (targets.Value n) op = ((int, tt), tt)
     constant_fine p pc new (targets.Class class) op = ((new, tt), tt)
-    constant_fine p pc new (targets.Field f) (ops.Getstatic i) = get_static_fine (slice_get p.fields f)
-    constant_fine p pc new (targets.Field f) (ops.Putstatic i) = put_static_fine (slice_get p.fields f)
-    constant_fine p pc new (targets.Field f) (ops.Getfield i) = get_fine (slice_get p.fields f)
-    constant_fine p pc new (targets.Field f) (ops.Putfield i) = put_fine (slice_get p.fields f)
-    constant_fine p pc new (targets.Method f) (ops.Invokevirtual i) = virtual_fine (slice_get p.methods f)
-    constant_fine p pc new (targets.Method f) (ops.Invokespecial i) = special_fine (slice_get p.methods f)
-    constant_fine p pc new (targets.Method f) (ops.Invokestatic i) = static_fine (slice_get p.methods f)
+    constant_fine p pc new (targets.Field f) (ops.Getstatic i) = found_fine get_static_row (tt, tt) (λ x. ((kind_fine x.kind, tt), tt)) (slice_get p.fields f)
+    constant_fine p pc new (targets.Field f) (ops.Putstatic i) = found_fine put_static_row (tt, tt) (λ x. (tt, tt)) (slice_get p.fields f)
+    constant_fine p pc new (targets.Field f) (ops.Getfield i) = found_fine get_row (tt, tt) (λ x. ((kind_fine x.kind, tt), tt)) (slice_get p.fields f)
+    constant_fine p pc new (targets.Field f) (ops.Putfield i) = found_fine put_row (tt, tt) (λ x. (tt, tt)) (slice_get p.fields f)
+    constant_fine p pc new (targets.Method f) (ops.Invokevirtual i) = found_fine virtual_row (tt, tt) (λ x. (result_fine x.result, tt)) (slice_get p.methods f)
+    constant_fine p pc new (targets.Method f) (ops.Invokespecial i) = found_fine special_row (tt, tt) (λ x. (result_fine x.result, tt)) (slice_get p.methods f)
+    constant_fine p pc new (targets.Method f) (ops.Invokestatic i) = found_fine static_row (tt, tt) (λ x. (result_fine x.result, tt)) (slice_get p.methods f)
     constant_fine p pc new targets.Out op = ((refs PRINT_STREAM_CLASS, tt), tt)
     constant_fine p pc new target op = (tt, tt)
 

@@ -1,6 +1,6 @@
 -- What the rules say where none is broken.
 use Rattle.std.proofs.Common.{◌≡◌, ℕ, zero, suc, ◌+◌, ◌<◌, ◌≤◌, Bool, true, false, not, ◌||◌, List, [], ◌∷◌, ◌++◌, length, map, reverse, take, Option, Some, None, refl, sym, ap, ◌∙◌, subst, arith, length-append, nat_lt, nat_le, slice_get}
-use Rattle.std.proofs.lemmas.{Bool.{and_from, not-false, or_parts, Decides.nat_tests}, List.{length-map, length-reverse}}
+use Rattle.std.proofs.lemmas.{Bool.{and_from, leb-false, ltb-false, not-false, or_parts}, List.{length-map, length-reverse}}
 use Rattle.jvm_types.specs.{CodeTable.{type_of, want_of, arguments, returned_want, row}, Types.{TypeFrame, is_below, all_pairs}}
 use Rattle.jvm_types.specs.Verifying.{takes_too_many, gives_too_many, lacks_locals, misuses_object, mistypes, misuses, suits, some_taken, some_read, is_fault_at_local, some_operand, names_no_local, returns_wrongly, falls_off}
 use Rattle.jvm_types.specs.declared.{code.{Insn.Insn, Op.Op}, op_row.{OpRow.OpRow, Want.{Want, TheVariants.AnInt}}, program.{Kind.Kind, MethodInfo.MethodInfo, Program.Program, Target.Target}}
@@ -31,10 +31,7 @@ unmisused m insn r f rules = operands_free _ _ _ _ rules.objects
 -- ---- values that are taken
 
 tall : (r : OpRow) (f : TypeFrame) → takes_too_many r f ≡ false → length r.takes ≤ length f.stack
-tall r f e = at_least (length f.stack) (length r.takes) e
-  where
-    at_least : (m n : ℕ) → nat_lt m n ≡ false → n ≤ m
-    at_least m n e = grind (arith, nat_tests, e)
+tall r f e = ltb-false (length f.stack) (length r.takes) e
 
 -- a value for each that is asked for
 value_at : (wants : List Want) (ts : List VType) (k : ℕ) (want : Want) → length wants ≤ length ts → slice_get wants k ≡ Some want → (t : VType) × (slice_get ts k ≡ Some t)
@@ -75,16 +72,12 @@ local_at (t ∷ ts) (suc i) h = local_at ts i (omega (arith, h))
 read_fine : (fault : Want → VType → Bool) (reads : Option (ℕ × Want)) (ts : List VType) (local : ℕ) (want : Want) (t : VType) → some_read fault reads ts ≡ false → reads ≡ Some (local, want)
     → slice_get ts local ≡ Some t → fault want t ≡ false
 read_fine fault reads ts local want t h e g =
-    let there : some_read fault (Some (local, want)) ts ≡ false = subst (λ (o : Option (ℕ × Want)). some_read fault o ts ≡ false) e h in
-    subst (λ (o : Option VType). is_fault_at_local fault want o ≡ false) g there
+    subst (λ (o : Option VType). is_fault_at_local fault want o ≡ false) g (subst (λ (o : Option (ℕ × Want)). some_read fault o ts ≡ false) e h)
 
 below_locals : (m : MethodInfo) (reads : Option (ℕ × Want)) (local : ℕ) (want : Want) → reads ≡ Some (local, want) → names_no_local m reads ≡ false → local < m.max_locals
 below_locals m reads local want e h =
     let there : nat_le m.max_locals local ≡ false = subst (λ (o : Option (ℕ × Want)). names_no_local m o ≡ false) e h in
-    below m.max_locals local there
-  where
-    below : (a b : ℕ) → nat_le a b ≡ false → b < a
-    below a b e = grind (arith, nat_tests, e)
+    leb-false m.max_locals local there
 
 pub read_good : ReadIsGood
 read_good m insn r f local want rules long e =

@@ -1,10 +1,10 @@
 -- The visits of a method end: each makes the work that is left less. A visit clears one flag, and a node that begins to
 -- wait has a frame that went down; one without a frame is above all frames that a method can have.
 use Rattle.std.proofs.Common.{◌≡◌, ℕ, zero, suc, ◌+◌, ◌-◌, ◌*◌, ◌<◌, ◌≤◌, Bool, true, false, List, [], ◌∷◌, length, map, Option, Some, None, Result, Ok, refl, ap, subst, arith, ◌||◌, not, ◌==◌, if◌then◌else◌, slice_get, slice_set}
-use Rattle.std.{specs.List.AllByRecursion, proofs.lemmas.{Bool.Decides.nat_tests, List.{length-append, length-drop, length-map, length-set}}}
-use Rattle.jvm_types.specs.{CodeTable.{value_of, row, stack_after, locals_after}, Types.{TypeFrame, meet_frames, same_frame, entry_type_frame}}
+use Rattle.std.{specs.List.AllByRecursion, proofs.lemmas.{Bool.{cond_both, Decides.nat_tests}, List.{length-append, length-drop, length-map}}}
+use Rattle.jvm_types.specs.{CodeTable.{row, stack_after, locals_after}, Types.{TypeFrame, meet_frames, same_frame, entry_type_frame}}
 use Rattle.jvm_types.specs.Verifying.{Node, node_at, first_nodes, node_met, brought, all_brought, clash, frame_at_handler, catch_fault, unless_caught, handled, unless_broken, unless_clash, covering, edges, takes_too_many, gives_too_many, broken_before, broken_after, started, initialised, after_start, frame_after, gone_on, visited_row, visited_insn, visited, waiting_from, next_visit, IsLaidOut}
-use Rattle.jvm_types.specs.declared.{code.Insn.Insn, op_row.{Given.Given, OpRow.OpRow}, program.{MethodInfo.MethodInfo, Program.Program, Row.Row, Target.Target}, refusal.VRule.VRule}
+use Rattle.jvm_types.specs.declared.{code.Insn.Insn, op_row.{OpRow.OpRow}, program.{MethodInfo.MethodInfo, Program.Program, Row.Row, Target.Target}, refusal.VRule.VRule}
 use Rattle.jvm_types.specs.declared.{refusal.VRule.TheVariants.{V1, V2}, typing.VType.{VType, TheVariants.Top}}
 use Rattle.laws_programs.proofs.{FrameBounds.locals_kept, VisitsEndRanks.{Falls, types_rank, types_falls, types_small, meets_short}}
 
@@ -61,9 +61,8 @@ first_weight m f waits h = omega (arith, within_rank m f h)
 again_weight : (m : MethodInfo) (g h : TypeFrame) (same waits : Bool) → Falls same (types_rank h) (types_rank g) → weight m (Some h) (waits || not same) ≤ weight m (Some g) waits
 unfolding weight flag frame_rank
 again_weight m g h true true falls = omega (arith, falls)
-again_weight m g h true false falls = omega (arith, falls)
 again_weight m g h false true falls = omega (arith, falls)
-again_weight m g h false false falls = omega (arith, falls)
+again_weight m g h same waits falls = omega (arith, falls)
 
 joined_within : (m : MethodInfo) (node : Node) (o : Option TypeFrame) (f : TypeFrame) → IsFrameKept m o → IsWithin m f → IsFrameKept m (node_met node o f).frame
 joined_within m node None f g h = h
@@ -94,11 +93,9 @@ on_others m node nodes after f a = record { kept = record { frames = (f, a.kept.
 brought_lowers : (m : MethodInfo) (code : List Insn) (to : ℕ) (f : TypeFrame) (nodes : List Node) → IsWithin m f → IsKept m nodes → Lowers m nodes (brought code to f nodes)
 brought_lowers m [] to f nodes h k = same_nodes m nodes k
 brought_lowers m (insn ∷ insns) to f [] h k = same_nodes m [] k
-brought_lowers m (insn ∷ insns) to f (node ∷ nodes) h k = by_test (insn.pc == to) (brought_lowers m insns to f nodes h (record { frames = k.frames.1 }))
-  where
-    by_test : (t : Bool) → Lowers m nodes (brought insns to f nodes) → Lowers m (node ∷ nodes) (if t then node_met node node.frame f ∷ nodes else node ∷ brought insns to f nodes)
-    by_test true more = on_first m node (node_met node node.frame f) nodes (joined_within m node node.frame f k.frames.0 h) (joined_weight m node node.frame f h) k
-    by_test false more = on_others m node nodes (brought insns to f nodes) k.frames.0 more
+brought_lowers m (insn ∷ insns) to f (node ∷ nodes) h k = cond_both (insn.pc == to) (node_met node node.frame f ∷ nodes) (node ∷ brought insns to f nodes) (Lowers m (node ∷ nodes))
+    (λ e. on_first m node (node_met node node.frame f) nodes (joined_within m node node.frame f k.frames.0 h) (joined_weight m node node.frame f h) k)
+    (λ e. on_others m node nodes (brought insns to f nodes) k.frames.0 (brought_lowers m insns to f nodes h (record { frames = k.frames.1 })))
 
 all_brought_lowers : (m : MethodInfo) (code : List Insn) (tos : List ℕ) (f : TypeFrame) (nodes : List Node) → IsWithin m f → IsKept m nodes → Lowers m nodes (all_brought code tos f nodes)
 all_brought_lowers m code [] f nodes h k = same_nodes m nodes k
@@ -123,11 +120,7 @@ unless_caught_ok x y more mid e = absurd (cc)
 -- ---- the frame after an instruction, and at a handler
 
 room_at_handler : (m : MethodInfo) (pc : ℕ) (handler : Row) → catch_fault m pc handler ≡ None → 1 ≤ m.max_stack
-room_at_handler m pc handler e = by_test (m.max_stack == 0) (V2, pc) _ refl e
-  where
-    by_test : (t : Bool) (fault : VRule × ℕ) (more : Option (VRule × ℕ)) → (m.max_stack == 0) ≡ t → (if t then Some fault else more) ≡ None → 1 ≤ m.max_stack
-    by_test true fault more f g = absurd (cc)
-    by_test false fault more f g = grind (arith, nat_tests, f)
+room_at_handler m pc handler e = cond_both (m.max_stack == 0) (Some (V2, pc)) _ (λ (o : Option (VRule × ℕ)). o ≡ None → 1 ≤ m.max_stack) (λ f g. absurd (cc)) (λ f g. grind (arith, nat_tests, f)) e
 
 handler_within : (m : MethodInfo) (handler : Row) (f : TypeFrame) → 1 ≤ m.max_stack → IsWithin m f → IsWithin m (frame_at_handler handler f)
 handler_within m handler f room h = record { stack = omega (arith, room); locals = h.locals }
@@ -218,24 +211,14 @@ record IsCleared (m : MethodInfo) (nodes : List Node) (from i : ℕ) : Type 0 wh
 
 first_clears : (m : MethodInfo) (node : Node) (nodes : List Node) → node.waits ≡ true → work m (cleared (node ∷ nodes) 0) < work m (node ∷ nodes)
 unfolding work weight flag
-first_clears m node nodes e = by_flag node.waits e
-  where
-    by_flag : (b : Bool) → b ≡ true → work m (record node { waits = false } ∷ nodes) < weight m node.frame b + work m nodes
-    by_flag true f = omega arith
-    by_flag false f = absurd (cc)
+first_clears m node nodes e = rw e (omega arith)
 
 next_clears : (m : MethodInfo) (nodes : List Node) (from i : ℕ) → waiting_from from nodes ≡ Some i → IsCleared m nodes from i
 unfolding work
 next_clears m [] from i e = absurd (cc)
-next_clears m (node ∷ nodes) from i e = by_test node.waits refl e (λ f. next_clears m nodes (suc from) i f)
-  where
-    by_test : (t : Bool) → node.waits ≡ t → (if t then Some from else waiting_from (suc from) nodes) ≡ Some i → (waiting_from (suc from) nodes ≡ Some i → IsCleared m nodes (suc from) i) → IsCleared m (node ∷ nodes) from i
-    by_test true f g more =
-        let here : from ≡ i = cc in
-        record { at = 0; there = omega (arith, here); less = first_clears m node nodes f }
-    by_test false f g more =
-        let later = more g in
-        record { at = suc later.at; there = omega (arith, later.there); less = omega (arith, later.less) }
+next_clears m (node ∷ nodes) from i e = cond_both node.waits (Some from) (waiting_from (suc from) nodes) (λ o. o ≡ Some i → IsCleared m (node ∷ nodes) from i)
+    (λ f g. let here : from ≡ i = cc in record { at = 0; there = omega (arith, here); less = first_clears m node nodes f })
+    (λ f g. let later = next_clears m nodes (suc from) i g in record { at = suc later.at; there = omega (arith, later.there); less = omega (arith, later.less) }) e
 
 -- ---- the laws of one visit
 

@@ -1,7 +1,7 @@
 -- A meet goes down: each type has a rank of at least 1, which falls where a meet with another changes the type. So the
 -- rank of a frame, the sum over its places, falls where an edge changes the frame, whatever the depths.
-use Rattle.std.proofs.Common.{◌≡◌, ℕ, zero, suc, ◌+◌, ◌-◌, ◌*◌, ◌<◌, ◌≤◌, Bool, true, false, List, [], ◌∷◌, length, refl, sym, subst, inl, inr, arith, ◌⊎◌, ◌&&◌, ◌==◌, if◌then◌else◌, slice_index_or}
-use Rattle.std.{specs.List.AllByRecursion, proofs.lemmas.Bool.eq-eqb}
+use Rattle.std.proofs.Common.{◌≡◌, ℕ, zero, suc, ◌+◌, ◌-◌, ◌*◌, ◌<◌, ◌≤◌, Bool, true, false, List, [], ◌∷◌, length, refl, sym, subst, inl, inr, arith, ◌⊎◌, ◌&&◌, ◌==◌, slice_index_or}
+use Rattle.std.{specs.List.AllByRecursion, proofs.lemmas.Bool.{cond_both, eq-eqb}}
 use Rattle.jvm_types.specs.ClassTree.{super_class, is_subclass, first_above, common_ancestor}
 use Rattle.jvm_types.specs.{Types.{TypeFrame, meet, if_same_place, same_type, all_pairs, meets, same_ready, same_frame, meet_frames}, declared.class_numbers.TheConstants.OBJECT_CLASS}
 use Rattle.jvm_types.{specs.declared.typing.VType.{VType, TheVariants.{Int, Null, Ref, This, New, Top}}, proofs.{ClassCases.by_class, TypeOrder.subclass_object}}
@@ -34,11 +34,7 @@ depth_small = by_class (λ c. depth c ≤ 4) (omega arith, (omega arith, (omega 
 first_lower : (d n : ℕ) (cs : List ℕ) → 0 < n → AllByRecursion (λ c. depth c < n) cs → depth (first_above d cs) < n
 unfolding depth
 first_lower d n [] h all = h
-first_lower d n (c ∷ cs) h all = by_test (is_subclass d c) all.0 (first_lower d n cs h all.1)
-  where
-    by_test : (t : Bool) → depth c < n → depth (first_above d cs) < n → depth (if t then c else first_above d cs) < n
-    by_test true here more = here
-    by_test false here more = more
+first_lower d n (c ∷ cs) h all = cond_both (is_subclass d c) c (first_above d cs) (λ x. depth x < n) (λ e. all.0) (λ e. first_lower d n cs h all.1)
 
 supers_lower : (c : ℕ) → 0 < depth c
     → AllByRecursion (λ d. depth d < depth c) (super_class c ∷ super_class (super_class c) ∷ super_class (super_class (super_class c)) ∷ super_class (super_class (super_class (super_class c))) ∷ [])
@@ -51,20 +47,16 @@ supers_lower c h =
 
 common_falls : (c d : ℕ) → (common_ancestor c d ≡ c) ⊎ (depth (common_ancestor c d) < depth c)
 unfolding common_ancestor
-common_falls c d = by_test (is_subclass d c) refl
+common_falls c d =
+    let supers : List ℕ = super_class c ∷ super_class (super_class c) ∷ super_class (super_class (super_class c)) ∷ super_class (super_class (super_class (super_class c))) ∷ [] in
+    cond_both (is_subclass d c) c (first_above d supers) (λ x. (x ≡ c) ⊎ (depth x < depth c)) (λ e. inl refl)
+    (λ e. inr (first_lower d (depth c) supers (deep (depth c) refl e) (supers_lower c (deep (depth c) refl e))))
   where
-    supers : List ℕ
-    supers = super_class c ∷ super_class (super_class c) ∷ super_class (super_class (super_class c)) ∷ super_class (super_class (super_class (super_class c))) ∷ []
-
     deep : (n : ℕ) → depth c ≡ n → is_subclass d c ≡ false → 0 < depth c
     deep zero e f =
         let below : is_subclass d c ≡ true = subst (λ (x : ℕ). is_subclass d x ≡ true) (sym (depth_object c e)) (subclass_object d) in
         absurd (cc)
     deep (suc n) e f = omega (arith, e)
-
-    by_test : (t : Bool) → is_subclass d c ≡ t → ((if t then c else first_above d supers) ≡ c) ⊎ (depth (if t then c else first_above d supers) < depth c)
-    by_test true e = inl refl
-    by_test false e = inr (first_lower d (depth c) supers (deep (depth c) refl e) (supers_lower c (deep (depth c) refl e)))
 
 -- ---- types
 
@@ -124,9 +116,8 @@ rank_small t = omega arith
 
 both_fall : (a b : Bool) (i j k l : ℕ) → Falls a i j → Falls b k l → Falls (a && b) (i + k) (j + l)
 both_fall true true i j k l g h = omega (arith, g, h)
-both_fall true false i j k l g h = omega (arith, g, h)
-both_fall false true i j k l g h = omega (arith, g, h)
 both_fall false false i j k l g h = omega (arith, g, h)
+both_fall a b i j k l g h = omega (arith, g, h)
 
 ranks : List VType → ℕ
 ranks [] = 0
