@@ -1,16 +1,12 @@
 -- Where guarded fields, final fields of frozen classes, and final static fields are written.
 use Rattle.std.{proofs.Common.{◌≡◌, ℕ, Bool, true, false, not, ◌&&◌, ◌||◌, [], ◌∷◌, Some, None, refl, sym, subst, inl, inr, ◌⊎◌, arith, ◌==◌, slice_get, IsSomeAnd}, specs.List.list_any}
-use Rattle.std.proofs.lemmas.Bool.{and_parts, eqb-true, Decides.nat_tests}
+use Rattle.std.proofs.lemmas.Bool.{and_from, and_parts, eq-eqb, eqb-true, or_cases, Decides.nat_tests}
 use Rattle.jvm_types.specs.{CodeTable.is_init, Members.{is_final, is_hidden, is_other_sort, is_class_init_name, initializes, first_rule, field_rule}, ProgramInvariant.{IsProgram, IsTargetOf, site_in}}
 use Rattle.jvm_types.specs.declared.{code.{Insn.Insn, Op.Op}, program.{FieldInfo.FieldInfo, MethodInfo.MethodInfo, Program.Program, Target.Target}, refusal.LRule.TheVariants.{L2, L3, L7}}
 use Rattle.checked_program.specs.{FrozenPlaces.{locks_this, locks_class, PutsGuarded, PutsStatic, WritesGuarded, PutsOnThis, is_final_of}, LockTags.{TagShape, is_this}}
 use Rattle.checked_program.{specs.{SectionLaws.{WriteLaw, StaticWriteLaw, FinalLaw, FinalStaticLaw}, TaggedCode.{Tagged, IsAt}}, proofs.NamedFields.target_named}
 use Rattle.jvm_types.specs.declared.code.Op.TheVariants as ops
 use Rattle.jvm_types.specs.declared.program.Target.TheVariants as targets
-
-or_two : (x y : Bool) → (x || y) ≡ true → (x ≡ true) ⊎ (y ≡ true)
-or_two true y e = inl refl
-or_two false y e = inr e
 
 pub or_three : (x y z : Bool) → (x || (y || z)) ≡ true → (x ≡ true) ⊎ (y ≡ true) ⊎ (z ≡ true)
 or_three true y z e = inl refl
@@ -28,7 +24,7 @@ static_write_law p tags fi mi i index m insn target f g at is names_field =
     let here : PutsStatic fi g.field.class m (ops.Putstatic index) (targets.Field fi) =
     subst (λ t. PutsStatic fi g.field.class m (ops.Putstatic index) t) names_field (subst (λ op. PutsStatic fi g.field.class m op target) is (g.written mi i m insn target f at)) in
     let both = and_parts (m.class == g.field.class) (is_class_init_name m.name || locks_class m) (here refl) in
-    (eqb-true m.class g.field.class both.0, or_two (is_class_init_name m.name) (locks_class m) both.1)
+    (eqb-true m.class g.field.class both.0, or_cases (is_class_init_name m.name) (locks_class m) both.1)
 
 -- ---- a final field is written in an `<init>` of its class, a static one in the `<clinit>`
 
@@ -61,11 +57,7 @@ of_field : (p : Program) (static : Bool) (fi : ℕ) (field : FieldInfo) (m : Met
 of_field p static fi field m h e = subst (λ o. IsSomeAnd o (λ (f : FieldInfo). field_rule static true (site_in m) f.class f.flags ≡ None)) e h
 
 is_final_field : (class : ℕ) (field : FieldInfo) → field.class ≡ class → is_final field.flags ≡ true → is_final_of class (Some field) ≡ true
-is_final_field class field same final = both (field.class == class) (is_final field.flags) (grind (arith, nat_tests, same)) final
-  where
-    both : (t u : Bool) → t ≡ true → u ≡ true → (t && u) ≡ true
-    both true u e f = f
-    both false u e f = e
+is_final_field class field same final = and_from (field.class == class) (is_final field.flags) (eq-eqb field.class class same) final
 
 field_named : (p : Program) (tags : Tagged) (fi mi i : ℕ) (m : MethodInfo) (insn : Insn) (target : Target) (f : TagShape) (op : Op) → IsProgram p → IsAt p tags mi i m insn target f → insn.op ≡ op → target ≡ targets.Field fi
     → IsTargetOf p (site_in m) op (targets.Field fi)

@@ -1,7 +1,7 @@
 -- The held lists of a method that has a tagging: each edge brings the one at its target, and where every monitor is entered
 -- on the object of a section, all held tags are of that object.
-use Rattle.std.proofs.Common.{◌≡◌, ℕ, zero, suc, ◌+◌, ◌<◌, Bool, true, false, List, [], ◌∷◌, length, drop, Option, Some, None, refl, sym, ap, ◌∙◌, subst, arith, ◌==◌, ◌||◌, slice_get, slice_index_or}
-use Rattle.std.{specs.List.{AllByRecursion, list_any}, proofs.lemmas.Bool.{eq-eqb, Decides.nat_tests}}
+use Rattle.std.proofs.Common.{◌≡◌, ⊎_elim, ℕ, zero, suc, ◌+◌, ◌<◌, Bool, true, false, List, [], ◌∷◌, length, drop, Option, Some, None, refl, sym, ap, ◌∙◌, subst, arith, ◌==◌, ◌||◌, slice_get, slice_index_or}
+use Rattle.std.{specs.List.{AllByRecursion, list_any}, proofs.lemmas.Bool.{eq-eqb, eqb-true, or_cases}}
 use Rattle.jvm_types.specs.{Numbers.has_number, Verifying.edges, declared.{code.{Insn.Insn, Op.Op}, op_row.OpRow.OpRow, program.{MethodInfo.MethodInfo, Program.Program, Row.Row, Target.Target}}}
 use Rattle.jvm_types.{specs.declared.refusal.SRule.SRule, proofs.EachAfter.all_weaker}
 use Rattle.checked_program.specs.{LockTags.{TagShape, IsShapeBelow, entry_tags}, Marks.is_own_object, TaggedCode.{Goes, onward, caught, row_of}}
@@ -16,7 +16,7 @@ use Rattle.jvm_types.specs.declared.code.Op.TheVariants as ops
 
 pub first_pc : (code : List Insn) (pc j : ℕ) (insn : Insn) → IsFirstOf code pc j → slice_get code j ≡ Some insn → insn.pc ≡ pc
 first_pc [] pc j insn f e = absurd f
-first_pc (x ∷ code) pc zero insn f e = let same : x ≡ insn = cc in let here : x.pc ≡ pc = grind (arith, nat_tests, f) in ap (λ (y : Insn). y.pc) (sym same) ∙ here
+first_pc (x ∷ code) pc zero insn f e = let same : x ≡ insn = cc in let here : x.pc ≡ pc = eqb-true x.pc pc f in ap (λ (y : Insn). y.pc) (sym same) ∙ here
 first_pc (x ∷ code) pc (suc j) insn f e = first_pc code pc j insn f.1 e
 
 pub one_first : (code : List Insn) (pc i j : ℕ) → IsFirstOf code pc i → IsFirstOf code pc j → i ≡ j
@@ -39,11 +39,8 @@ own_held mode depth pc r ops.Monitorenter (t ∷ ts) f enters own = at
     at : AreOwn mode depth (t ∷ f.held)
     at zero l = enters refl
     at (suc k) l = own k (omega (arith, l))
-own_held mode depth pc r ops.Monitorexit ts f enters own = by_held f.held own
-  where
-    by_held : (held : List Tag) → AreOwn mode depth held → AreOwn mode depth (drop 1 held)
-    by_held [] own k l = absurd (omega (arith, l))
-    by_held (t ∷ held) own k l = own (suc k) (omega (arith, l))
+own_held mode depth pc r ops.Monitorexit ts f enters own =
+    elim f.held as (λ held. AreOwn mode depth held → AreOwn mode depth (drop 1 held)) [ [] ↦ λ own k l. absurd (omega (arith, l)) | t ∷ held ↦ λ own k l. own (suc k) (omega (arith, l)) ] own
 own_held mode depth pc r op ts f enters own = own
 
 pub own_along : (p : Program) (m : MethodInfo) (mode : Mode) (depth : ℕ) (insn other : Insn) (target : Target) (f h : TagShape) → (insn.op ≡ ops.Monitorenter → is_own_object mode (slice_index_or f.stack 0 Untagged) ≡ true)
@@ -81,12 +78,9 @@ module _ (p : Program) (m : MethodInfo) where
     abbrev IsFirst : ℕ → Type 0
     IsFirst j = (insn : Insn) → slice_get m.code j ≡ Some insn → IsFirstOf m.code insn.pc j
 
-    is_first : (pc j : ℕ) → IsFirstOf m.code pc j → IsFirst j
-    is_first pc j first insn e = subst (λ n. IsFirstOf m.code n j) (sym (first_pc m.code pc j insn first e)) first
-
     edges_first : (tos : List ℕ) → AllByRecursion (λ to. (j : ℕ) → IsFirstOf m.code to j → IsFirst j) tos
     edges_first [] = tt
-    edges_first (to ∷ tos) = (is_first to, edges_first tos)
+    edges_first (to ∷ tos) = ((λ j first insn e. subst (λ n. IsFirstOf m.code n j) (sym (first_pc m.code to j insn first e)) first), edges_first tos)
 
     acts_first : (acts : List (Act TagShape SRule)) → ActsLead (tag_plan p m) IsShapeBelow tag_order (λ j g. IsFirst j) acts
     acts_first [] = tt
@@ -111,20 +105,13 @@ module _ (p : Program) (m : MethodInfo) where
 
     lands_at : (h : TagShape) (tos : List ℕ) (pc : ℕ) → AllByRecursion (TagLands ends.last h) tos → has_number tos pc ≡ true → TagLands ends.last h pc
     lands_at h [] pc all e = absurd (let bad : false ≡ true = e in cc)
-    lands_at h (to ∷ tos) pc all e = by_test (to == pc) refl e (λ e. lands_at h tos pc all.1 e)
-      where
-        by_test : (t : Bool) → (to == pc) ≡ t → (t || has_number tos pc) ≡ true → (has_number tos pc ≡ true → TagLands ends.last h pc) → TagLands ends.last h pc
-        by_test true same e more = let at : to ≡ pc = grind (arith, nat_tests, same) in subst (TagLands ends.last h) at all.0
-        by_test false same e more = more e
+    lands_at h (to ∷ tos) pc all e = ⊎_elim (λ (same : (to == pc) ≡ true). subst (TagLands ends.last h) (eqb-true to pc same) all.0)
+        (λ (e : has_number tos pc ≡ true). lands_at h tos pc all.1 e) (or_cases (to == pc) (has_number tos pc) e)
 
     caught_at : (f : TagShape) (handlers : List Row) (pc : ℕ) → AllByRecursion (λ handler. IsTagFine ends.last (to_handler f handler)) handlers → list_any (λ handler. handler.handler == pc) handlers ≡ true → TagLands ends.last (tags_at_handler f) pc
     caught_at f [] pc all e = absurd (let bad : false ≡ true = e in cc)
-    caught_at f (handler ∷ handlers) pc all e = by_test (handler.handler == pc) refl e (λ e. caught_at f handlers pc all.1 e)
-      where
-        by_test : (t : Bool) → (handler.handler == pc) ≡ t → (t || list_any (λ handler. handler.handler == pc) handlers) ≡ true → (list_any (λ handler. handler.handler == pc) handlers ≡ true → TagLands ends.last (tags_at_handler f) pc)
-            → TagLands ends.last (tags_at_handler f) pc
-        by_test true same e more = let at : handler.handler ≡ pc = grind (arith, nat_tests, same) in subst (TagLands ends.last (tags_at_handler f)) at all.0.0
-        by_test false same e more = more e
+    caught_at f (handler ∷ handlers) pc all e = ⊎_elim (λ (same : (handler.handler == pc) ≡ true). subst (TagLands ends.last (tags_at_handler f)) (eqb-true handler.handler pc same) all.0.0)
+        (λ (e : list_any (λ (handler : Row). handler.handler == pc) handlers ≡ true). caught_at f handlers pc all.1 e) (or_cases (handler.handler == pc) (list_any (λ (handler : Row). handler.handler == pc) handlers) e)
 
     goes_lands : (insn other : Insn) (target : Target) (f h : TagShape) → AreKept (IsTagFine ends.last) m insn (row_of p m insn target) f → Goes p m insn target f other h → TagLands ends.last h other.pc
     goes_lands insn other target f h sound (onward o e) = lands_at (tags_after insn (row_of p m insn target) f) (edges insn) o.pc sound.onward e
@@ -169,13 +156,12 @@ module _ (p : Program) (m : MethodInfo) where
       acts_own i h own framed = by_both (slice_get m.code i) refl (slice_get m.targets i) refl
         where
           by_both : (o : Option Insn) → slice_get m.code i ≡ o → (q : Option Target) → slice_get m.targets i ≡ q → AllByRecursion Leads (acts_at p m o q h)
-          by_both None c q t = tt
-          by_both (Some insn) c None t = tt
           by_both (Some insn) c (Some target) t =
               let f = final_frame (tag_plan p m) IsShapeBelow tag_order frames ends i h framed in
               let sound = sound_at i insn target f.0 c t f.1 in
               let held = own_held mode 0 insn.pc (row_of p m insn target) insn.op f.0.stack f.0 (enters i insn target f.0 c t f.1) (own f.0 f.1) in
               all_acts Leads m insn (row_of p m insn target) h (λ rule pc. tt) (edges_own (tags_after insn (row_of p m insn target) f.0) (edges insn) held sound.onward) (handlers_own f.0 h (catchers m insn) (own f.0 f.1) sound.caught)
+          by_both o c q t = tt
 
       pub all_own : (j : ℕ) (g : TagShape) → slice_get frames j ≡ Some (Some g) → AreOwn mode 0 g.held
       all_own j g e =

@@ -26,8 +26,7 @@ innermost mode t [] e own = absurd (none t e)
   where
     none : (t : Tag) → not (is_innermost t []) ≡ false → ⊥
     none Untagged e = cc
-    none This e = cc
-    none (At pc) e = cc
+    none t e = cc
 innermost mode This (u ∷ held) e own = ((own_object mode u (own (omega arith))).0, refl)
 innermost mode (At pc) (u ∷ held) e own = absurd (let bad : true ≡ false = subst (λ x. not (same_tag (At pc) x) ≡ false) ((own_object mode u (own (omega arith))).1) e in cc)
 

@@ -36,12 +36,11 @@ one_use_at p tags fi u v a b = refl
 -- lists that have the same item at each index
 same_items : {A : Type 0} (xs ys : List A) → length xs ≡ length ys → ((i : ℕ) (x y : A) → slice_get xs i ≡ Some x → slice_get ys i ≡ Some y → x ≡ y) → xs ≡ ys
 same_items [] [] l h = refl
-same_items [] (y ∷ ys) l h = absurd (omega (arith, l))
-same_items (x ∷ xs) [] l h = absurd (omega (arith, l))
 same_items (x ∷ xs) (y ∷ ys) l h =
     let first : x ≡ y = h 0 x y refl refl in
     let more : xs ≡ ys = same_items xs ys (omega (arith, l)) (λ i a b e f. h (suc i) a b e f) in
     cc
+same_items xs ys l h = absurd (omega (arith, l))
 
 -- ---- elements
 
@@ -52,24 +51,20 @@ one_flag b c X h k = refl
 
 one_row : (xs ys : List Bool) → length xs ≡ length ys → ((i : ℕ) → slice_index_or xs i false ≡ slice_index_or ys i false) → xs ≡ ys
 one_row [] [] l h = refl
-one_row [] (y ∷ ys) l h = absurd (omega (arith, l))
-one_row (x ∷ xs) [] l h = absurd (omega (arith, l))
 one_row (x ∷ xs) (y ∷ ys) l h =
     let first : x ≡ y = h 0 in
     let more : xs ≡ ys = one_row xs ys (omega (arith, l)) (λ i. h (suc i)) in
     cc
+one_row xs ys l h = absurd (omega (arith, l))
 
 one_table : (ms : List MethodInfo) (xs ys : List (List Bool)) → AllZip (λ (m : MethodInfo) (flags : List Bool). length flags ≡ length m.code) ms xs → AllZip (λ (m : MethodInfo) (flags : List Bool). length flags ≡ length m.code) ms ys
     → ((mi i : ℕ) → slice_index_or (slice_index_or xs mi []) i false ≡ slice_index_or (slice_index_or ys mi []) i false) → xs ≡ ys
 one_table [] [] [] a b h = refl
-one_table [] (x ∷ xs) ys a b h = absurd a
-one_table [] [] (y ∷ ys) a b h = absurd b
-one_table (m ∷ ms) [] ys a b h = absurd a
-one_table (m ∷ ms) (x ∷ xs) [] a b h = absurd b
 one_table (m ∷ ms) (x ∷ xs) (y ∷ ys) a b h =
     let first : x ≡ y = one_row x y (a.0 ∙ sym b.0) (h 0) in
     let more : xs ≡ ys = one_table ms xs ys a.1 b.1 (λ mi i. h (suc mi) i) in
     cc
+one_table ms xs ys a b h = absurd (assumption)
 
 pub one_use : OneUse
 one_use p tags uses others a b =
@@ -87,9 +82,8 @@ turn_once m n e = by_tests (suc m == 8) (suc n == 8) refl refl e
   where
     by_tests : (t u : Bool) → (suc m == 8) ≡ t → (suc n == 8) ≡ u → cond t 0 (suc m) ≡ cond u 0 (suc n) → m ≡ n
     by_tests true true a b e = grind (arith, nat_tests, a, b)
-    by_tests true false a b e = absurd (omega (arith, e))
-    by_tests false true a b e = absurd (omega (arith, e))
     by_tests false false a b e = omega (arith, e)
+    by_tests t u a b e = absurd (omega (arith, e))
 
 one_mark_of : (p : Program) (tags : Tagged) (uses : Uses) (s : Section) (m n : ℕ) → HasMark p tags uses s m → HasMark p tags uses s n → m ≡ n
 one_mark_of p tags uses s zero zero a b = refl
@@ -109,14 +103,11 @@ one_marked p tags uses s a b h k =
 
 all_marked : (p : Program) (tags : Tagged) (uses : Uses) (ss : List Section) (marks others : List SectionMark) → AllZip (IsMarkOf p tags uses) ss marks → AllZip (IsMarkOf p tags uses) ss others → marks ≡ others
 all_marked p tags uses [] [] [] a b = refl
-all_marked p tags uses [] (m ∷ marks) others a b = absurd a
-all_marked p tags uses [] [] (n ∷ others) a b = absurd b
-all_marked p tags uses (s ∷ ss) [] others a b = absurd a
-all_marked p tags uses (s ∷ ss) (m ∷ marks) [] a b = absurd b
 all_marked p tags uses (s ∷ ss) (m ∷ marks) (n ∷ others) a b =
     let first : m ≡ n = one_marked p tags uses s m n a.0 b.0 in
     let more : marks ≡ others = all_marked p tags uses ss marks others a.1 b.1 in
     cc
+all_marked p tags uses ss marks others a b = absurd (assumption)
 
 pub one_mark : OneMark
 one_mark p tags marks others a b =

@@ -59,11 +59,8 @@ invoke_law p tags s o a b parts mode m insn target f stack below at this call is
 
 -- how a frame is run follows from how the one below is
 called_on_class : (class : ℕ) (mode : Mode) (t : Tag) → (called_mode mode t ≡ OnClass class) ↔ (mode ≡ OnClass class)
-called_on_class class OnThis t = ((λ e. absurd (not_class (is_own_object OnThis t) e)), λ e. absurd (let bad : OnThis ≡ OnClass class = e in cc))
-  where
-    not_class : (own : Bool) → mode_if own ≡ OnClass class → ⊥
-    not_class true e = cc
-    not_class false e = cc
+called_on_class class OnThis t =
+    ((λ e. absurd (elim (is_own_object OnThis t) as (λ own. mode_if own ≡ OnClass class → ⊥) [ true ↦ λ e. cc | false ↦ λ e. cc ] e)), λ e. absurd (let bad : OnThis ≡ OnClass class = e in cc))
 called_on_class class OffThis t = ((λ e. absurd (let bad : OffThis ≡ OnClass class = e in cc)), λ e. absurd (let bad : OffThis ≡ OnClass class = e in cc))
 called_on_class class (OnClass c) t = ((λ e. e), λ e. e)
 
@@ -88,10 +85,7 @@ return_law p tags s o a b parts mode all = (all.0, all.1)
 
 -- an instruction that calls a method leaves no monitor
 pub no_exit : (op : Op) (target : Target) (u : ℕ) → called_method op target ≡ Some u → op ≡ ops.Monitorexit → ⊥
-no_exit op target u c e = let bad : called_method ops.Monitorexit target ≡ Some u = subst (λ x. called_method x target ≡ Some u) e c in none target bad
-  where
-    none : (target : Target) → called_method ops.Monitorexit target ≡ Some u → ⊥
-    none target e = cc
+no_exit op target u c e = let bad : called_method ops.Monitorexit target ≡ Some u = subst (λ x. called_method x target ≡ Some u) e c in cc
 
 one_insn : (p : Program) (tags : Tagged) (mi i : ℕ) (m n : MethodInfo) (insn other : Insn) (target next : Target) (f g : TagShape) → IsAt p tags mi i m insn target f → IsAt p tags mi i n other next g → insn ≡ other
 one_insn p tags mi i m n insn other target next f g a b =

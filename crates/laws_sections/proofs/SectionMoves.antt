@@ -15,11 +15,7 @@ held_after pc r ops.Dup (Untagged ∷ ts) f = inr (omega arith)
 held_after pc r op ts f = inr (omega arith)
 
 exit_after : (pc : ℕ) (r : OpRow) (ts : List Tag) (f : TagShape) → length f.held ≤ suc (length (tags_by_op pc r ops.Monitorexit ts f).held)
-exit_after pc r ts f = by_held f.held
-  where
-    by_held : (held : List Tag) → length held ≤ suc (length (drop 1 held))
-    by_held [] = omega arith
-    by_held (t ∷ ts) = omega arith
+exit_after pc r ts f = elim f.held as (λ held. length held ≤ suc (length (drop 1 held))) [ [] ↦ omega arith | t ∷ ts ↦ omega arith ]
 
 -- the held list that an edge brings
 held_along : (p : Program) (m : MethodInfo) (insn : Insn) (target : Target) (f : TagShape) (other : Insn) (h : TagShape) → Goes p m insn target f other h

@@ -1,6 +1,6 @@
 -- No instruction holds the tag that a `dup` there would make: every tag, wherever it is, is one whose `dup` does not hold it.
-use Rattle.std.proofs.Common.{◌≡◌, ℕ, zero, suc, ◌-◌, Bool, true, false, List, [], ◌∷◌, map, drop, length, replicate, Option, Some, None, refl, sym, ap, ◌∙◌, subst, ◌||◌, if◌then◌else◌, slice_get, slice_set, slice_index_or}
-use Rattle.std.specs.List.{AllByRecursion}
+use Rattle.std.proofs.Common.{◌≡◌, ⊎_elim, ℕ, zero, suc, ◌-◌, Bool, true, false, List, [], ◌∷◌, map, drop, length, replicate, Option, Some, None, refl, sym, ap, ◌∙◌, subst, ◌||◌, if◌then◌else◌, slice_get, slice_set, slice_index_or}
+use Rattle.std.{specs.List.AllByRecursion, proofs.lemmas.Bool.{cases_Bool, cond_both, or_cases}}
 use Rattle.jvm_types.specs.{CodeTable.{row, value_of, locals_after}, Members.is_static, Verifying.IsLaidOut, declared.{code.{Insn.Insn, Op.Op}, op_row.Given.Given}}
 use Rattle.jvm_types.{specs.declared.{op_row.{Given.TheVariants.{Fresh, Taken, Local}, OpRow.OpRow}, program.MethodInfo.MethodInfo}, proofs.EachAfter.all_append}
 use Rattle.laws_programs.proofs.CodeOrder.{one_number}
@@ -13,11 +13,8 @@ use Rattle.jvm_types.specs.declared.code.Op.TheVariants as ops
 
 held_tag : (t : Tag) (ts : List Tag) (P : Tag → Type 0) → is_held t ts ≡ true → AllByRecursion P ts → P t
 held_tag t [] P e h = absurd (cc)
-held_tag t (u ∷ ts) P e h = by_test (same_tag t u) refl e (λ e. held_tag t ts P e h.1)
-  where
-    by_test : (b : Bool) → same_tag t u ≡ b → (b || is_held t ts) ≡ true → (is_held t ts ≡ true → P t) → P t
-    by_test true s e more = subst P (sym (one_tag t u s)) h.0
-    by_test false s e more = more e
+held_tag t (u ∷ ts) P e h =
+    ⊎_elim (λ (s : same_tag t u ≡ true). subst P (sym (one_tag t u s)) h.0) (λ (e : is_held t ts ≡ true). held_tag t ts P e h.1) (or_cases (same_tag t u) (is_held t ts) e)
 
 -- ---- tags whose `dup` does not hold them
 
@@ -33,11 +30,7 @@ module _ (m : MethodInfo) (frames : List (Option TagShape)) (laid : IsLaidOut m)
     held : AllByRecursion IsFree f.held
 
   own_free : (i : ℕ) (insn : Insn) (f : TagShape) → slice_get m.code i ≡ Some insn → slice_get frames i ≡ Some (Some f) → AreFree f → is_held (At insn.pc) f.held ≡ false
-  own_free i insn f c e h = by_test (is_held (At insn.pc) f.held) refl
-    where
-      by_test : (b : Bool) → is_held (At insn.pc) f.held ≡ b → is_held (At insn.pc) f.held ≡ false
-      by_test true t = held_tag (At insn.pc) f.held IsFree t h.held i insn f c refl e
-      by_test false t = t
+  own_free i insn f c e h = ⊎_elim (λ (t : is_held (At insn.pc) f.held ≡ true). held_tag (At insn.pc) f.held IsFree t h.held i insn f c refl e) (λ t. t) (cases_Bool (is_held (At insn.pc) f.held))
 
   -- along an edge
   free_tag : (t u : Tag) → IsTagBelow t u → IsFree t → IsFree u
@@ -58,11 +51,11 @@ module _ (m : MethodInfo) (frames : List (Option TagShape)) (laid : IsLaidOut m)
   untagged_free (suc n) = (tt, untagged_free n)
 
   entry_free : AreFree (entry_tags m)
-  entry_free = record { stack = tt; locals = by_static (is_static m.flags); held = tt }
-    where
-      by_static : (b : Bool) → AllByRecursion IsFree (if b then replicate m.max_locals Untagged else This ∷ replicate (m.max_locals - 1) Untagged)
-      by_static true = untagged_free m.max_locals
-      by_static false = (tt, untagged_free (m.max_locals - 1))
+  entry_free = record {
+    stack = tt;
+    locals = cond_both (is_static m.flags) (replicate m.max_locals Untagged) (This ∷ replicate (m.max_locals - 1) Untagged) (AllByRecursion IsFree) (λ e. untagged_free m.max_locals) (λ e. (tt, untagged_free (m.max_locals - 1)));
+    held = tt;
+  }
 
   -- after an instruction
   free_at : (i : ℕ) (ts : List Tag) → AllByRecursion IsFree ts → IsFree (slice_index_or ts i Untagged)
@@ -82,11 +75,7 @@ module _ (m : MethodInfo) (frames : List (Option TagShape)) (laid : IsLaidOut m)
 
   free_without : (pc : ℕ) (ts : List Tag) → AllByRecursion IsFree ts → AllByRecursion IsFree (without pc ts)
   free_without pc [] h = tt
-  free_without pc (t ∷ ts) h = (by_test (same_tag t (At pc)), free_without pc ts h.1)
-    where
-      by_test : (b : Bool) → IsFree (if b then Untagged else t)
-      by_test true = tt
-      by_test false = h.0
+  free_without pc (t ∷ ts) h = (cond_both (same_tag t (At pc)) Untagged t IsFree (λ e. tt) (λ e. h.0), free_without pc ts h.1)
 
   free_value : (f : TagShape) (given : Given) → AreFree f → IsFree (value_of Untagged (λ type. Untagged) f.stack f.locals given)
   free_value f (Fresh type) h = tt

@@ -1,6 +1,6 @@
 -- The local law of tags, from that of visits. Tagging reaches only what typing reaches; so its edges lead to instructions.
 use Rattle.std.{proofs.Common.{◌≡◌, ℕ, zero, suc, Bool, true, false, List, [], ◌∷◌, Option, Some, None, refl, sym, ap, ◌∙◌, subst, ◌==◌, if◌then◌else◌, slice_get}, specs.List.AllByRecursion}
-use Rattle.std.proofs.lemmas.Bool.{or_left, or_right, eq-eqb}
+use Rattle.std.proofs.lemmas.Bool.{cond_both, or_left, or_right, eq-eqb}
 use Rattle.jvm_types.specs.{CodeGrammar.is_start, CodeTable.{row, can_throw}, Types.{TypeFrame, entry_type_frame}, Verifying.{edges, covering, frame_after, frame_at_handler, IsLaidOut}}
 use Rattle.jvm_types.{specs.declared.{code.Insn.Insn, op_row.OpRow.OpRow, program.{MethodInfo.MethodInfo, Program.Program, Row.Row, Target.Target}, refusal.SRule.SRule}, proofs.EachAfter.all_weaker}
 use Rattle.laws_programs.proofs.{CodeOrder.one_number, EdgeTargets.lands, LocalGoing.{begins, local_law}}
@@ -54,20 +54,14 @@ module _ (p : Program) (m : MethodInfo) (frames : List (Option TypeFrame)) (laid
   rows_land : (g : TypeFrame) (f : TagShape) (rows : List Row) → AllByRecursion (λ handler. types.FrameFits m.code frames (frame_at_handler handler g) handler.handler) rows
       → AllByRecursion (λ handler. Lands IsTyped m.code (tags_at_handler f) handler.handler) (until_all rows)
   rows_land g f [] h = tt
-  rows_land g f (handler ∷ rows) h = by_test (catches_all handler) (typed_lands (frame_at_handler handler g) (tags_at_handler f) handler.handler h.0) (rows_land g f rows h.1)
-    where
-      by_test : (b : Bool) → Lands IsTyped m.code (tags_at_handler f) handler.handler → AllByRecursion (λ handler. Lands IsTyped m.code (tags_at_handler f) handler.handler) (until_all rows)
-          → AllByRecursion (λ handler. Lands IsTyped m.code (tags_at_handler f) handler.handler) (if b then handler ∷ [] else handler ∷ until_all rows)
-      by_test true one more = (one, tt)
-      by_test false one more = (one, more)
+  rows_land g f (handler ∷ rows) h =
+      let one : Lands IsTyped m.code (tags_at_handler f) handler.handler = typed_lands (frame_at_handler handler g) (tags_at_handler f) handler.handler h.0 in
+      cond_both (catches_all handler) (handler ∷ []) (handler ∷ until_all rows) (AllByRecursion (λ handler. Lands IsTyped m.code (tags_at_handler f) handler.handler)) (λ e. (one, tt)) (λ e. (one, rows_land g f rows h.1))
 
   catchers_land : (insn : Insn) (g : TypeFrame) (f : TagShape) → AllByRecursion (λ handler. types.FrameFits m.code frames (frame_at_handler handler g) handler.handler) (covering m insn.pc)
       → AllByRecursion (λ handler. Lands IsTyped m.code (tags_at_handler f) handler.handler) (catchers m insn)
-  catchers_land insn g f h = by_test (can_throw insn.op)
-    where
-      by_test : (b : Bool) → AllByRecursion (λ handler. Lands IsTyped m.code (tags_at_handler f) handler.handler) (if b then until_all (covering m insn.pc) else [])
-      by_test true = rows_land g f (covering m insn.pc) h
-      by_test false = tt
+  catchers_land insn g f h =
+      cond_both (can_throw insn.op) (until_all (covering m insn.pc)) [] (AllByRecursion (λ handler. Lands IsTyped m.code (tags_at_handler f) handler.handler)) (λ e. rows_land g f (covering m insn.pc) h) (λ e. tt)
 
   insn_lands : (insn : Insn) (r : OpRow) (g : TypeFrame) (f : TagShape) → types.IsSound m insn r frames g → AllByRecursion (ActLands IsTyped m.code) (tag_acts m insn r f)
   insn_lands insn r g f s = acts_land IsTyped m insn r f
@@ -78,9 +72,8 @@ module _ (p : Program) (m : MethodInfo) (frames : List (Option TypeFrame)) (laid
   plan_lands i f typed = by_both (slice_get m.code i) refl (slice_get m.targets i) refl
     where
       by_both : (o : Option Insn) → slice_get m.code i ≡ o → (q : Option Target) → slice_get m.targets i ≡ q → AllByRecursion (ActLands IsTyped m.code) (acts_at p m o q f)
-      by_both None c q t = tt
-      by_both (Some insn) c None t = tt
       by_both (Some insn) c (Some target) t = insn_lands insn (row p m insn.pc target insn.op) typed.0 f (typing.sound i insn target typed.0 c t typed.1)
+      by_both o c q t = tt
 
   first_typed : IsTyped 0 (entry_tags m)
   first_typed =

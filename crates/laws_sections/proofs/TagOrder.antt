@@ -19,13 +19,12 @@ own_tag t = refl
 
 pub one_list : (ts us : List Tag) → same_tags ts us ≡ true → ts ≡ us
 one_list [] [] e = refl
-one_list (t ∷ ts) [] e = absurd (cc)
-one_list [] (u ∷ us) e = absurd (cc)
 one_list (t ∷ ts) (u ∷ us) e =
     let parts = and_parts (same_tag t u) (same_tags ts us) e in
     let one : t ≡ u = one_tag t u parts.0 in
     let more : ts ≡ us = one_list ts us parts.1 in
     cc
+one_list ts us e = absurd (cc)
 
 pub own_tags : (ts : List Tag) → same_tags ts ts ≡ true
 own_tags [] = refl

@@ -1,7 +1,7 @@
 -- Ranks of frames of tags: a place counts one, and one more where it has a tag. So a frame that meets another and changes
 -- goes down, and no instruction lifts one by much.
 use Rattle.std.proofs.Common.{◌≡◌, ℕ, zero, suc, ◌+◌, ◌*◌, ◌<◌, ◌≤◌, Bool, true, false, List, [], ◌∷◌, ◌++◌, length, map, drop, Option, Some, None, refl, ap, arith, ◌&&◌, if◌then◌else◌, slice_get, slice_set}
-use Rattle.std.specs.List.{AllByRecursion}
+use Rattle.std.{specs.List.AllByRecursion, proofs.lemmas.Bool.cond_both}
 use Rattle.jvm_types.specs.{CodeTable.{row, value_of, locals_after}, Verifying.edges, declared.{code.{Insn.Insn, Op.Op}, op_row.{Given.Given, OpRow.OpRow}, program.MethodInfo.MethodInfo}}
 use Rattle.jvm_types.{specs.declared.{program.{Program.Program, Row.Row, Target.Target}, refusal.SRule.{SRule, TheVariants.{S1, S2, S3, S4}}}, proofs.EachAfter.all_append}
 use Rattle.checked_program.specs.LockTags.{TagShape, same_tag, same_tags, meet_tags, without}
@@ -40,9 +40,8 @@ Falls false new old = new < old
 
 fall_both : (a b : Bool) (m n r s : ℕ) → Falls a m r → Falls b n s → Falls (a && b) (m + n) (r + s)
 fall_both true true m n r s h k = omega (arith, h, k)
-fall_both true false m n r s h k = omega (arith, h, k)
-fall_both false true m n r s h k = omega (arith, h, k)
 fall_both false false m n r s h k = omega (arith, h, k)
+fall_both a b m n r s h k = omega (arith, h, k)
 
 lost_falls : (t : Tag) → Falls (same_tag t Untagged) 1 (tag_rank t)
 lost_falls Untagged = omega arith
@@ -93,11 +92,8 @@ rank_set (u ∷ ts) (suc n) t = omega (arith, rank_set ts n t)
 
 rank_without : (pc : ℕ) (ts : List Tag) → tags_rank (without pc ts) ≤ tags_rank ts
 rank_without pc [] = omega arith
-rank_without pc (t ∷ ts) = by_test (same_tag t (At pc)) (rank_without pc ts)
-  where
-    by_test : (b : Bool) → tags_rank (without pc ts) ≤ tags_rank ts → tag_rank (if b then Untagged else t) + tags_rank (without pc ts) ≤ tag_rank t + tags_rank ts
-    by_test true h = omega (arith, rank_some t, h)
-    by_test false h = omega (arith, h)
+rank_without pc (t ∷ ts) = cond_both (same_tag t (At pc)) Untagged t (λ u. tag_rank u + tags_rank (without pc ts) ≤ tag_rank t + tags_rank ts)
+    (λ e. omega (arith, rank_some t, rank_without pc ts)) (λ e. omega (arith, rank_without pc ts))
 
 rank_locals : (write : Option (ℕ × Given)) (stack locals : List Tag) → tags_rank (locals_after Untagged (λ type. Untagged) write stack locals) ≤ tags_rank locals + 1
 rank_locals None stack locals = omega arith

@@ -50,9 +50,8 @@ module _ (p : Program) (m : MethodInfo) (frames : List (Option TagShape)) (laid 
   plan_lands i f has = by_both (slice_get m.code i) refl (slice_get m.targets i) refl
     where
       by_both : (o : Option Insn) → slice_get m.code i ≡ o → (q : Option Target) → slice_get m.targets i ≡ q → AllByRecursion (ActLands HasIt m.code) (acts_at p m o q f)
-      by_both None c q t = tt
-      by_both (Some insn) c None t = tt
       by_both (Some insn) c (Some target) t = insn_lands i insn target f has.0 c t has.1 has.2
+      by_both o c q t = tt
 
   first_has : HasIt 0 (entry_tags m)
   first_has =

@@ -119,9 +119,8 @@ module _ (p : Program) (m : MethodInfo) (frames : List (Option TagShape)) (tagge
     plan_leads i f g e q = by_both (slice_get m.code i) refl (slice_get m.targets i) refl
       where
         by_both : (o : Option Insn) → slice_get m.code i ≡ o → (k : Option Target) → slice_get m.targets i ≡ k → AllByRecursion Leads (acts_at p m o k f)
-        by_both None c k t = tt
-        by_both (Some insn) c None t = tt
         by_both (Some insn) c (Some target) t = insn_leads i insn target f g c t e q
+        by_both o c k t = tt
 
     pub all_reach : (i : ℕ) (f : TagShape) → slice_get frames i ≡ Some (Some f) → Q i
     all_reach i f e =

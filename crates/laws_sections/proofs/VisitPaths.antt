@@ -3,9 +3,9 @@
 use Rattle.std.proofs.Common.{⊎_elim, ◌≡◌, ℕ, zero, suc, length, length-set, Bool, true, false, cond, List, [], ◌∷◌, map, Option, Some, None, Result, Ok, ◌⊎◌, inl, inr, refl, sym, ap, ◌∙◌, subst, ◌==◌, slice_get, slice_set}
 use Rattle.std.{specs.List.AllByRecursion, proofs.lemmas.{List.length-map, Option.same_Some}}
 use Rattle.jvm_types.{specs.declared.code.Insn.Insn, proofs.EachAfter.all_weaker}
-use Rattle.laws_programs.proofs.LocalGoing.{got_set}
+use Rattle.laws_programs.proofs.{LocalEdges.{unclashed as none_clashes}, LocalGoing.got_set}
 use Rattle.checked_program.specs.Visits.{Act, Break, Bring, PlanNode, Plan, unreached, joined, edge_brought, edges_brought, meeting_clash, unless_meeting_clash, acted, acts_on, visited_node, plan_visited, first_waiting, next_waiting, nodes_for, plan_nodes, PlanVisits, HasFrames}
-use Rattle.laws_sections.proofs.VisitedNodes.{IsFirstOf, Orders, IsBelow, IsRisen, AreRisen, frame_trans, risen_self, risen_length, risen_from, risen_to, LandsOn, IsActFine, Sound, sound_risen, Does, does}
+use Rattle.laws_sections.proofs.VisitedNodes.{IsFirstOf, Orders, IsBelow, IsRisen, AreRisen, frame_trans, risen_self, risen_length, risen_from, risen_to, LandsOn, IsActFine, Sound, sound_risen, unclashed, Does, does}
 
 -- ---- a node is set
 
@@ -19,16 +19,8 @@ set_to xs i j x n a e f = inr f
 
 pub rests : {A : Type 0} (k : ℕ) (nodes : List (PlanNode A)) (i : ℕ) (node : PlanNode A) → first_waiting k nodes ≡ None → slice_get nodes i ≡ Some node → node.waits ≡ false
 rests k [] i node h e = absurd (cc)
-rests k (a ∷ nodes) zero node h e = ap (λ n. n.waits) (sym (same_Some _ _ e)) ∙ (unwaiting a.waits (first_waiting (suc k) nodes) h).0
-  where
-    unwaiting : (t : Bool) (more : Option ℕ) → cond t (Some k) more ≡ None → (t ≡ false) × (more ≡ None)
-    unwaiting true more h = absurd (cc)
-    unwaiting false more h = (refl, h)
-rests k (a ∷ nodes) (suc i) node h e = rests (suc k) nodes i node (unwaiting a.waits (first_waiting (suc k) nodes) h) e
-  where
-    unwaiting : (t : Bool) (more : Option ℕ) → cond t (Some k) more ≡ None → more ≡ None
-    unwaiting true more h = absurd (cc)
-    unwaiting false more h = h
+rests k (a ∷ nodes) zero node h e = ap (λ n. n.waits) (sym (same_Some _ _ e)) ∙ (none_clashes a.waits k (first_waiting (suc k) nodes) h).0
+rests k (a ∷ nodes) (suc i) node h e = rests (suc k) nodes i node (none_clashes a.waits k (first_waiting (suc k) nodes) h).1 e
 
 module _ {A R : Type 0} (p : Plan A R) (Below : A → A → Type 0) (order : Orders p.meeting Below) where
   abbrev cleared : PlanNode A → PlanNode A
@@ -69,27 +61,22 @@ module _ {A R : Type 0} (p : Plan A R) (Below : A → A → Type 0) (order : Ord
   is_visit i node nodes mid e made = by_frame node.frame refl made
     where
       by_frame : (o : Option A) → node.frame ≡ o → acted p.meeting p.code (acts_on p i o) (slice_set nodes i (cleared node)) ≡ Ok mid → IsVisit i node nodes mid
-      by_frame None k made =
-          let same : slice_set nodes i (cleared node) ≡ mid = cc in
-          record {
-            there = e;
-            risen = subst (λ (ns : List (PlanNode A)). AreRisen p.meeting Below order (slice_set nodes i (cleared node)) ns) same (risen_self p.meeting Below order (slice_set nodes i (cleared node)));
-            sound = λ f h. let bad : None ≡ Some f = sym k ∙ h in absurd (cc);
-          }
+      by_frame None k made = record {
+        there = e;
+        risen = let same : slice_set nodes i (cleared node) ≡ mid = cc in subst (AreRisen p.meeting Below order (slice_set nodes i (cleared node))) same (risen_self p.meeting Below order (slice_set nodes i (cleared node)));
+        sound = λ f h. let bad : None ≡ Some f = sym k ∙ h in absurd (cc);
+      }
       by_frame (Some g) k made =
           let done : Does p.meeting Below order p.code (p.acts i g) (slice_set nodes i (cleared node)) mid = does p.meeting Below order p.code (p.acts i g) (slice_set nodes i (cleared node)) mid made in
           record { there = e; risen = done.risen; sound = λ f h. subst (λ (x : A). Sound p.meeting Below order p.code mid (p.acts i x)) (same_Some _ _ (sym k ∙ h)) done.sound }
 
   visit_goes : (i : ℕ) (node : PlanNode A) (nodes mid : List (PlanNode A)) → IsGoing nodes → IsVisit i node nodes mid → IsGoing mid
-  visit_goes i node nodes mid going v j b f e w k = at (risen_from p.meeting Below order (slice_set nodes i (cleared node)) mid j b v.risen e)
-    where
-      at : (a : PlanNode A) × (slice_get (slice_set nodes i (cleared node)) j ≡ Some a) × IsRisen p.meeting Below order a b → Sound p.meeting Below order p.code mid (p.acts j f)
-      at a = either (got_set nodes i j (cleared node) a.0 a.1)
-        where
-          either : ((j ≡ i) × (cleared node ≡ a.0)) ⊎ (slice_get nodes j ≡ Some a.0) → Sound p.meeting Below order p.code mid (p.acts j f)
-          either (inl h) = subst (λ (n : ℕ). Sound p.meeting Below order p.code mid (p.acts n f)) (sym h.0) (v.sound f (ap (λ (n : PlanNode A). n.frame) h.1 ∙ (a.2.kept w).1 ∙ k))
-          either (inr h) = sound_risen p.meeting Below order p.code (slice_set nodes i (cleared node)) mid (p.acts j f) v.risen
-              (sound_cleared nodes i node (p.acts j f) v.there (going j a.0 f h (a.2.kept w).0 ((a.2.kept w).1 ∙ k)))
+  visit_goes i node nodes mid going v j b f e w k =
+      let a = risen_from p.meeting Below order (slice_set nodes i (cleared node)) mid j b v.risen e in
+      ⊎_elim (λ (h : (j ≡ i) × (cleared node ≡ a.0)). subst (λ (n : ℕ). Sound p.meeting Below order p.code mid (p.acts n f)) (sym h.0) (v.sound f (ap (λ (n : PlanNode A). n.frame) h.1 ∙ (a.2.kept w).1 ∙ k)))
+      (λ (h : slice_get nodes j ≡ Some a.0). sound_risen p.meeting Below order p.code (slice_set nodes i (cleared node)) mid (p.acts j f) v.risen
+          (sound_cleared nodes i node (p.acts j f) v.there (going j a.0 f h (a.2.kept w).0 ((a.2.kept w).1 ∙ k))))
+      (got_set nodes i j (cleared node) a.0 a.1)
 
   -- a visit is that of a node, or of none
   by_visit : (X : Type 0) (i : ℕ) (nodes mid : List (PlanNode A)) → plan_visited p i nodes ≡ Ok mid → ((node : PlanNode A) → IsVisit i node nodes mid → X) → (nodes ≡ mid → X) → X
@@ -104,8 +91,7 @@ module _ {A R : Type 0} (p : Plan A R) (Below : A → A → Type 0) (order : Ord
 
   all_go : (is : List ℕ) (nodes last : List (PlanNode A)) → IsGoing nodes → PlanVisits p nodes is last → IsGoing last × (next_waiting last ≡ None)
   all_go [] nodes last going v = subst (λ (ns : List (PlanNode A)). IsGoing ns × (next_waiting ns ≡ None)) (sym v.1) (going, v.0)
-  all_go (i ∷ is) nodes last going v =
-      all_go is v.1 last (goes_on i nodes v.1 going v.2) v.3
+  all_go (i ∷ is) nodes last going v = all_go is v.1 last (goes_on i nodes v.1 going v.2) v.3
 
   pub visits_length : (is : List ℕ) (nodes last : List (PlanNode A)) → PlanVisits p nodes is last → length last ≡ length nodes
   visits_length [] nodes last v = ap length v.1
@@ -185,8 +171,6 @@ module _ {A R : Type 0} (p : Plan A R) (Below : A → A → Type 0) (order : Ord
   ActsLead L acts = AllByRecursion (ActLeads L) acts
 
   brought_live : (L : ℕ → A → Type 0) → Meets L → (code : List Insn) (to : ℕ) (f : A) (nodes : List (PlanNode A)) → ((j : ℕ) → IsFirstOf code to j → L j f) → AreLive L nodes → AreLive L (edge_brought p.meeting code to f nodes)
-  brought_live L meets [] to f nodes there all = all
-  brought_live L meets (insn ∷ code) to f [] there all = all
   brought_live L meets (insn ∷ code) to f (node ∷ nodes) there all =
       by_test (insn.pc == to) refl (λ e. brought_live (λ i. L (suc i)) (λ i g f a b. meets (suc i) g f a b) code to f nodes (λ j first. there (suc j) (e, first)) (λ j b g k h. all (suc j) b g k h))
     where
@@ -199,6 +183,7 @@ module _ {A R : Type 0} (p : Plan A R) (Below : A → A → Type 0) (order : Ord
       by_test true t more (suc j) b g k h = all (suc j) b g k h
       by_test false t more zero b g k h = all 0 b g k h
       by_test false t more (suc j) b g k h = more t j b g k h
+  brought_live L meets code to f nodes there all = all
 
   all_brought_live : (L : ℕ → A → Type 0) → Meets L → (tos : List ℕ) (f : A) (nodes : List (PlanNode A)) → AllByRecursion (λ to. (j : ℕ) → IsFirstOf p.code to j → L j f) tos → AreLive L nodes → AreLive L (edges_brought p.meeting p.code tos f nodes)
   all_brought_live L meets [] f nodes there all = all
@@ -208,11 +193,7 @@ module _ {A R : Type 0} (p : Plan A R) (Below : A → A → Type 0) (order : Ord
   acted_live L meets [] nodes mid lead all e = let same : nodes ≡ mid = cc in subst (AreLive L) same all
   acted_live L meets (Break rule pc ∷ acts) nodes mid lead all e = absurd (cc)
   acted_live L meets (Bring rule tos f ∷ acts) nodes mid lead all e =
-      acted_live L meets acts (edges_brought p.meeting p.code tos f nodes) mid lead.1 (all_brought_live L meets tos f nodes lead.0 all) (unclashed (meeting_clash p.meeting p.code tos f nodes) (acted p.meeting p.code acts (edges_brought p.meeting p.code tos f nodes)) e)
-    where
-      unclashed : (o : Option ℕ) (more : Result (List (PlanNode A)) (R × ℕ)) → unless_meeting_clash rule o more ≡ Ok mid → more ≡ Ok mid
-      unclashed (Some pc) more e = absurd (cc)
-      unclashed None more e = e
+      acted_live L meets acts (edges_brought p.meeting p.code tos f nodes) mid lead.1 (all_brought_live L meets tos f nodes lead.0 all) (unclashed rule (meeting_clash p.meeting p.code tos f nodes) (acted p.meeting p.code acts (edges_brought p.meeting p.code tos f nodes)) mid e).1
 
   cleared_live : (L : ℕ → A → Type 0) (nodes : List (PlanNode A)) (i : ℕ) (node : PlanNode A) → slice_get nodes i ≡ Some node → AreLive L nodes → AreLive L (slice_set nodes i (cleared node))
   cleared_live L nodes i node e all j b g k h = ⊎_elim

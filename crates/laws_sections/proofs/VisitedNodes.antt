@@ -1,7 +1,7 @@
 -- What visits of any kind leave at the nodes, of whatever code: frames only rise, one that has changed waits, and under the
 -- last frames no rule is broken and each edge to a node with a frame fits. Where pcs repeat, an edge leads to the first.
 use Rattle.std.proofs.Common.{◌≡◌, ℕ, zero, suc, length, Bool, true, false, cond, not, ◌&&◌, ◌||◌, List, [], ◌∷◌, Option, Some, None, Result, Ok, refl, sym, ap, ◌∙◌, subst, arith, ◌==◌, slice_get, IsSomeAnd}
-use Rattle.std.{specs.List.{AllByRecursion, AllZip}, proofs.lemmas.{Bool.{or_parts, Decides.nat_tests}, Option.same_Some}}
+use Rattle.std.{specs.List.{AllByRecursion, AllZip}, proofs.lemmas.{Bool.{and_right, eq-eqb, eqb-true, not-false, or_parts, true≢false}, Option.same_Some}}
 use Rattle.jvm_types.{specs.{Numbers.has_number, declared.code.Insn.Insn}, proofs.EachAfter.all_weaker}
 use Rattle.laws_programs.proofs.LocalEdges.{unclashed as none_clashes}
 use Rattle.checked_program.specs.Visits.{Meeting, Act, Break, Bring, PlanNode, joined, edge_brought, edges_brought, clashes_with, meeting_clash, unless_meeting_clash, acted}
@@ -23,6 +23,10 @@ pub record Orders {A : Type 0} (d : Meeting A) (Below : A → A → Type 0) : Ty
   pub own : (f : A) → d.clashes f f ≡ false
   pub again : (g f : A) → d.clashes g f ≡ false → d.clashes (d.meet g f) f ≡ false
 
+pub unclashed : {A R : Type 0} (rule : R) (o : Option ℕ) (more : Result (List (PlanNode A)) (R × ℕ)) (mid : List (PlanNode A)) → unless_meeting_clash rule o more ≡ Ok mid → (o ≡ None) × (more ≡ Ok mid)
+unclashed rule (Some pc) more mid e = absurd (cc)
+unclashed rule None more mid e = (refl, e)
+
 module _ {A : Type 0} (d : Meeting A) (Below : A → A → Type 0) (order : Orders d Below) where
   abbrev pub IsBelow : Option A → Option A → Type 0
   IsBelow None g = Unit {0}
@@ -34,9 +38,8 @@ module _ {A : Type 0} (d : Meeting A) (Below : A → A → Type 0) (order : Orde
 
   pub frame_trans : (f g h : Option A) → IsBelow f g → IsBelow g h → IsBelow f h
   frame_trans None g h a b = tt
-  frame_trans (Some f) None h a b = absurd a
-  frame_trans (Some f) (Some g) None a b = absurd b
   frame_trans (Some f) (Some g) (Some h) a b = order.trans f g h a b
+  frame_trans f g h a b = absurd (assumption)
 
   -- ---- nodes only rise, and one that has changed waits
 
@@ -56,17 +59,14 @@ module _ {A : Type 0} (d : Meeting A) (Below : A → A → Type 0) (order : Orde
 
   risen_trans : (xs ys zs : List (PlanNode A)) → AreRisen xs ys → AreRisen ys zs → AreRisen xs zs
   risen_trans [] [] zs h k = k
-  risen_trans [] (b ∷ ys) zs h k = absurd h
-  risen_trans (a ∷ xs) [] zs h k = absurd h
-  risen_trans (a ∷ xs) (b ∷ ys) [] h k = absurd k
   risen_trans (a ∷ xs) (b ∷ ys) (c ∷ zs) h k =
       (record { frame = frame_trans a.frame b.frame c.frame h.0.frame k.0.frame; kept = λ e. ((h.0.kept (k.0.kept e).0).0, (h.0.kept (k.0.kept e).0).1 ∙ (k.0.kept e).1) }, risen_trans xs ys zs h.1 k.1)
+  risen_trans xs ys zs h k = absurd (assumption)
 
   pub risen_length : (xs ys : List (PlanNode A)) → AreRisen xs ys → length xs ≡ length ys
   risen_length [] [] h = refl
-  risen_length [] (b ∷ ys) h = absurd h
-  risen_length (a ∷ xs) [] h = absurd h
   risen_length (a ∷ xs) (b ∷ ys) h = ap suc (risen_length xs ys h.1)
+  risen_length xs ys h = absurd h
 
   -- the node that one was, and the node that one becomes
   pub risen_from : (xs ys : List (PlanNode A)) (i : ℕ) (b : PlanNode A) → AreRisen xs ys → slice_get ys i ≡ Some b → (a : PlanNode A) × (slice_get xs i ≡ Some a) × IsRisen a b
@@ -77,10 +77,9 @@ module _ {A : Type 0} (d : Meeting A) (Below : A → A → Type 0) (order : Orde
   risen_from (x ∷ xs) (y ∷ ys) (suc i) b h e = risen_from xs ys i b h.1 e
 
   pub risen_to : (xs ys : List (PlanNode A)) (i : ℕ) (a : PlanNode A) → AreRisen xs ys → slice_get xs i ≡ Some a → (b : PlanNode A) × (slice_get ys i ≡ Some b) × IsBelow a.frame b.frame
-  risen_to [] ys i a h e = absurd (cc)
-  risen_to (x ∷ xs) [] i a h e = absurd h
   risen_to (x ∷ xs) (y ∷ ys) zero a h e = let same : x ≡ a = cc in (y, refl, subst (λ (z : PlanNode A). IsBelow z.frame y.frame) same h.0.frame)
   risen_to (x ∷ xs) (y ∷ ys) (suc i) a h e = risen_to xs ys i a h.1 e
+  risen_to xs ys i a h e = absurd (first_of (assumption, cc))
 
   -- ---- one edge
 
@@ -97,12 +96,8 @@ module _ {A : Type 0} (d : Meeting A) (Below : A → A → Type 0) (order : Orde
   joined_rises waits None f e = (record { frame = tt; kept = λ w. absurd (cc) }, order.self f)
   joined_rises waits (Some g) f e = (record { frame = order.left g f e; kept = kept }, order.right g f e)
     where
-      same : (t : Bool) → not t ≡ false → t ≡ true
-      same true e = refl
-      same false e = absurd (cc)
-
       kept : (waits || not (d.same g (d.meet g f))) ≡ false → (waits ≡ false) × (Some g ≡ Some (d.meet g f))
-      kept w = let parts = or_parts waits (not (d.same g (d.meet g f))) w in (parts.0, ap Some (order.equal g (d.meet g f) (same (d.same g (d.meet g f)) parts.1)))
+      kept w = let parts = or_parts waits (not (d.same g (d.meet g f))) w in (parts.0, ap Some (order.equal g (d.meet g f) (not-false (d.same g (d.meet g f)) parts.1)))
 
   joined_clashes : (waits : Bool) (frame : Option A) (f : A) → clashes_with d frame f ≡ false → clashes_with d (joined d waits frame f).frame f ≡ false
   joined_clashes waits None f e = order.own f
@@ -120,30 +115,17 @@ module _ {A : Type 0} (d : Meeting A) (Below : A → A → Type 0) (order : Orde
       let parts = none_clashes ((to == insn.pc || has_number tos insn.pc) && clashes_with d node.frame f) insn.pc (meeting_clash d code (to ∷ tos) f nodes) c in
       by_test (insn.pc == to) refl parts.0 parts.1 (one_edge code tos f to nodes parts.1)
     where
-      same_test : (t : Bool) → (insn.pc == to) ≡ t → (to == insn.pc) ≡ t
-      same_test true e = grind (arith, nat_tests, e)
-      same_test false e = grind (arith, nat_tests, e)
-
       -- of a test with more pcs
       fewer : (t u v : Bool) → ((t || u) && v) ≡ false → (u && v) ≡ false
-      fewer t true true e = absurd (by_first t e)
-        where
-          by_first : (t : Bool) → ((t || true) && true) ≡ false → ⊥
-          by_first true e = cc
-          by_first false e = cc
-      fewer t true false e = refl
-      fewer t false v e = refl
+      fewer true true true e = absurd (cc)
+      fewer false u v e = e
+      fewer t u v e = refl
 
       fewer_clash : (code : List Insn) (nodes : List (PlanNode A)) → meeting_clash d code (to ∷ tos) f nodes ≡ None → meeting_clash d code tos f nodes ≡ None
-      fewer_clash [] nodes c = refl
-      fewer_clash (x ∷ code) [] c = refl
       fewer_clash (x ∷ code) (n ∷ nodes) c =
           let parts = none_clashes ((to == x.pc || has_number tos x.pc) && clashes_with d n.frame f) x.pc (meeting_clash d code (to ∷ tos) f nodes) c in
           ap (λ t. cond t (Some x.pc) (meeting_clash d code tos f nodes)) (fewer (to == x.pc) (has_number tos x.pc) (clashes_with d n.frame f) parts.0) ∙ fewer_clash code nodes parts.1
-
-      both_false : (t u : Bool) → u ≡ false → (t && u) ≡ false
-      both_false true u e = e
-      both_false false u e = refl
+      fewer_clash code nodes c = refl
 
       here : (t u v : Bool) → t ≡ true → ((t || u) && v) ≡ false → v ≡ false
       here true u v e h = h
@@ -152,27 +134,25 @@ module _ {A : Type 0} (d : Meeting A) (Below : A → A → Type 0) (order : Orde
       by_test : (t : Bool) → (insn.pc == to) ≡ t → ((to == insn.pc || has_number tos insn.pc) && clashes_with d node.frame f) ≡ false → meeting_clash d code (to ∷ tos) f nodes ≡ None → Brings code tos f to nodes (edge_brought d code to f nodes)
           → Brings (insn ∷ code) tos f to (node ∷ nodes) (cond t (joined d node.waits node.frame f ∷ nodes) (node ∷ edge_brought d code to f nodes))
       by_test true t c k more =
-          let free : clashes_with d node.frame f ≡ false = here (to == insn.pc) (has_number tos insn.pc) (clashes_with d node.frame f) (same_test true t) c in
-          let test : (has_number tos insn.pc && clashes_with d (joined d node.waits node.frame f).frame f) ≡ false = both_false (has_number tos insn.pc) (clashes_with d (joined d node.waits node.frame f).frame f) (joined_clashes node.waits node.frame f free) in
+          let free : clashes_with d node.frame f ≡ false = here (to == insn.pc) (has_number tos insn.pc) (clashes_with d node.frame f) (eq-eqb to insn.pc (sym (eqb-true insn.pc to t))) c in
+          let test : (has_number tos insn.pc && clashes_with d (joined d node.waits node.frame f).frame f) ≡ false = and_right (has_number tos insn.pc) (clashes_with d (joined d node.waits node.frame f).frame f) (joined_clashes node.waits node.frame f free) in
           record {
             risen = ((joined_rises node.waits node.frame f free).0, risen_self nodes);
-            lands = λ j b first e. at j b first e;
+            lands = at free;
             rest = ap (λ t. cond t (Some insn.pc) (meeting_clash d code tos f nodes)) test ∙ fewer_clash code nodes k;
           }
         where
-          at : (j : ℕ) (b : PlanNode A) → IsFirstOf (insn ∷ code) to j → slice_get (joined d node.waits node.frame f ∷ nodes) j ≡ Some b → IsBelow (Some f) b.frame
-          at zero b first e =
-              let free : clashes_with d node.frame f ≡ false = here (to == insn.pc) (has_number tos insn.pc) (clashes_with d node.frame f) (same_test true t) c in
-              subst (λ (n : PlanNode A). IsBelow (Some f) n.frame) (same_Some _ _ e) (joined_rises node.waits node.frame f free).1
-          at (suc j) b first e = absurd (let bad : true ≡ false = sym t ∙ first.0 in cc)
+          at : clashes_with d node.frame f ≡ false → (j : ℕ) (b : PlanNode A) → IsFirstOf (insn ∷ code) to j → slice_get (joined d node.waits node.frame f ∷ nodes) j ≡ Some b → IsBelow (Some f) b.frame
+          at free zero b first e = subst (λ (n : PlanNode A). IsBelow (Some f) n.frame) (same_Some _ _ e) (joined_rises node.waits node.frame f free).1
+          at free (suc j) b first e = absurd (true≢false (sym t ∙ first.0))
       by_test false t c k more = record {
         risen = (node_self node, more.risen);
-        lands = λ j b first e. at j b first e;
+        lands = at;
         rest = ap (λ t. cond t (Some insn.pc) (meeting_clash d code tos f (edge_brought d code to f nodes))) (fewer (to == insn.pc) (has_number tos insn.pc) (clashes_with d node.frame f) c) ∙ more.rest;
       }
         where
           at : (j : ℕ) (b : PlanNode A) → IsFirstOf (insn ∷ code) to j → slice_get (node ∷ edge_brought d code to f nodes) j ≡ Some b → IsBelow (Some f) b.frame
-          at zero b first e = absurd (let bad : true ≡ false = sym first ∙ t in cc)
+          at zero b first e = absurd (true≢false (sym first ∙ t))
           at (suc j) b first e = more.lands j b first.1 e
 
   -- ---- all edges, and all that an instruction does
@@ -206,10 +186,6 @@ module _ {A : Type 0} (d : Meeting A) (Below : A → A → Type 0) (order : Orde
 
   pub sound_risen : {R : Type 0} (code : List Insn) (xs ys : List (PlanNode A)) (acts : List (Act A R)) → AreRisen xs ys → Sound code xs acts → Sound code ys acts
   sound_risen code xs ys acts h s = all_weaker (IsActFine code xs) (IsActFine code ys) (act_risen code xs ys h) acts s
-
-  unclashed : {R : Type 0} (rule : R) (o : Option ℕ) (more : Result (List (PlanNode A)) (R × ℕ)) (mid : List (PlanNode A)) → unless_meeting_clash rule o more ≡ Ok mid → (o ≡ None) × (more ≡ Ok mid)
-  unclashed rule (Some pc) more mid e = absurd (cc)
-  unclashed rule None more mid e = (refl, e)
 
   pub record Does {R : Type 0} (code : List Insn) (acts : List (Act A R)) (nodes mid : List (PlanNode A)) : Type 0 where
     pub risen : AreRisen nodes mid

@@ -2,9 +2,10 @@
 -- brings frames whose ranks are not far above that of its own. A visit clears one flag, and a node that begins to wait has a
 -- frame that went down; one without a frame is above all frames that it can have.
 use Rattle.std.proofs.Common.{◌≡◌, ℕ, zero, suc, ◌+◌, ◌*◌, ◌<◌, ◌≤◌, Bool, true, false, List, [], ◌∷◌, map, Option, Some, None, Result, Ok, Err, ◌⊎◌, inl, inr, refl, sym, ap, ◌∙◌, subst, arith, ◌||◌, not, ◌==◌, if◌then◌else◌, slice_get, slice_set}
-use Rattle.std.specs.List.{AllByRecursion}
+use Rattle.std.{specs.List.AllByRecursion, proofs.lemmas.Bool.cond_both}
 use Rattle.jvm_types.{specs.declared.code.Insn.Insn, proofs.EachAfter.all_weaker}
 use Rattle.checked_program.specs.Visits.{Meeting, Act, Break, Bring, PlanNode, Plan, unreached, joined, edge_brought, edges_brought, meeting_clash, unless_meeting_clash, acted, acts_on, visited_node, plan_visited, first_waiting, next_waiting, nodes_for, plan_nodes, PlanVisits, PlanBreaks, HasFrames, IsBroken}
+use Rattle.laws_sections.proofs.VisitedNodes.{unclashed}
 
 -- ---- ranks
 
@@ -123,11 +124,8 @@ module _ {A : Type 0} (d : Meeting A) (rank : A → ℕ) (gain most : ℕ) (equa
   brought_lowers : (b : ℕ) (code : List Insn) (to : ℕ) (f : A) (nodes : List (PlanNode A)) → AreUnder rank b nodes → rank f ≤ b + gain → rank f < most → Lowers b nodes (edge_brought d code to f nodes)
   brought_lowers b [] to f nodes h e l = same_nodes b nodes h
   brought_lowers b (insn ∷ insns) to f [] h e l = same_nodes b [] h
-  brought_lowers b (insn ∷ insns) to f (node ∷ nodes) h e l = by_test (insn.pc == to) (brought_lowers b insns to f nodes h.1 e l)
-    where
-      by_test : (t : Bool) → Lowers b nodes (edge_brought d insns to f nodes) → Lowers b (node ∷ nodes) (if t then joined d node.waits node.frame f ∷ nodes else node ∷ edge_brought d insns to f nodes)
-      by_test true more = on_first b node.waits node.frame f nodes h.0 h.1 e l
-      by_test false more = on_others b node nodes (edge_brought d insns to f nodes) h.0 more
+  brought_lowers b (insn ∷ insns) to f (node ∷ nodes) h e l = cond_both (insn.pc == to) (joined d node.waits node.frame f ∷ nodes) (node ∷ edge_brought d insns to f nodes) (Lowers b (node ∷ nodes))
+      (λ t. on_first b node.waits node.frame f nodes h.0 h.1 e l) (λ t. on_others b node nodes (edge_brought d insns to f nodes) h.0 (brought_lowers b insns to f nodes h.1 e l))
 
   all_brought_lowers : (b : ℕ) (code : List Insn) (tos : List ℕ) (f : A) (nodes : List (PlanNode A)) → AreUnder rank b nodes → rank f ≤ b + gain → rank f < most → Lowers b nodes (edges_brought d code tos f nodes)
   all_brought_lowers b code [] f nodes h e l = same_nodes b nodes h
@@ -135,10 +133,6 @@ module _ {A : Type 0} (d : Meeting A) (rank : A → ℕ) (gain most : ℕ) (equa
       let mid : List (PlanNode A) = edge_brought d code to f nodes in
       let one : Lowers b nodes mid = brought_lowers b code to f nodes h e l in
       then_lowers b nodes mid (edges_brought d code tos f mid) one (all_brought_lowers one.bound code tos f mid one.under (omega (arith, e, one.above)) l)
-
-  unclashed : {R : Type 0} (rule : R) (o : Option ℕ) (more : Result (List (PlanNode A)) (R × ℕ)) (mid : List (PlanNode A)) → unless_meeting_clash rule o more ≡ Ok mid → more ≡ Ok mid
-  unclashed rule (Some pc) more mid e = absurd (cc)
-  unclashed rule None more mid e = e
 
   -- the frames of one visit are bounded by what was there when it began
   acted_lowers : {R : Type 0} (start b : ℕ) (code : List Insn) (acts : List (Act A R)) (nodes mid : List (PlanNode A)) → start ≤ b → start + gain < most → AreUnder rank b nodes
@@ -149,7 +143,7 @@ module _ {A : Type 0} (d : Meeting A) (rank : A → ℕ) (gain most : ℕ) (equa
       let next : List (PlanNode A) = edges_brought d code tos f nodes in
       let small : rank f ≤ start + gain = a.0 in
       let one : Lowers b nodes next = all_brought_lowers b code tos f nodes h (omega (arith, small, s)) (omega (arith, small, l)) in
-      then_lowers b nodes next mid one (acted_lowers start one.bound code acts next mid (omega (arith, s, one.above)) l one.under a.1 (unclashed rule (meeting_clash d code tos f nodes) (acted d code acts next) mid e))
+      then_lowers b nodes next mid one (acted_lowers start one.bound code acts next mid (omega (arith, s, one.above)) l one.under a.1 (unclashed rule (meeting_clash d code tos f nodes) (acted d code acts next) mid e).1)
 
   -- ---- the instruction that is visited
 

@@ -1,7 +1,7 @@
 -- The local law of visits of any kind: under the last frames no rule is broken, and what an edge brings fits the frame at
 -- its target. It asks that frames have an order in which a meeting goes up, and that edges lead to instructions.
 use Rattle.std.proofs.Common.{◌≡◌, ℕ, zero, suc, Bool, true, false, cond, ◌||◌, List, [], ◌∷◌, map, length, Option, Some, None, refl, sym, ap, ◌∙◌, subst, arith, ◌==◌, slice_get, IsSomeAnd}
-use Rattle.std.{specs.List.AllByRecursion, proofs.lemmas.{Bool.{eq-eqb, Decides.nat_tests}, List.length-map}}
+use Rattle.std.{specs.List.AllByRecursion, proofs.lemmas.{Bool.{cond_both, eq-eqb, eqb-true}, List.length-map}}
 use Rattle.jvm_types.{specs.{CodeGrammar.is_start, declared.code.Insn.Insn}, proofs.EachAfter.all_weaker}
 use Rattle.checked_program.specs.Visits.{Act, Break, Bring, PlanNode, Plan, plan_nodes, HasFrames, frame_at_pc, EdgeFits}
 use Rattle.laws_sections.proofs.TaggedPaths.{first_there}
@@ -54,15 +54,13 @@ pub record Landing {A : Type 0} (Below : A → A → Type 0) (code : List Insn) 
 pub landing : {A : Type 0} (Below : A → A → Type 0) (code : List Insn) (frames : List (Option A)) (f : A) (to : ℕ) → EdgeFits Below code frames f to → Landing Below code frames f to
 landing Below [] frames f to h = absurd h
 landing Below (insn ∷ code) [] f to h = absurd h
-landing {A = A} Below (insn ∷ code) (frame ∷ frames) f to h = by_test (insn.pc == to) refl (landing Below code frames f to) h
+landing {A = A} Below (insn ∷ code) (frame ∷ frames) f to h =
+    cond_both (insn.pc == to) frame (frame_at_pc code frames to) (λ o. IsSomeAnd o (λ g. Below f g) → Landing Below (insn ∷ code) (frame ∷ frames) f to) (λ e. here frame refl (eqb-true insn.pc to e))
+    (λ e h. let l = landing Below code frames f to h in record { number = suc l.number; insn = l.insn; frame = l.frame; there = l.there; starts = l.starts; has = l.has; fits = l.fits }) h
   where
     here : (o : Option A) → frame ≡ o → insn.pc ≡ to → IsSomeAnd o (λ g. Below f g) → Landing Below (insn ∷ code) (frame ∷ frames) f to
     here None e same h = absurd h
     here (Some g) e same h = record { number = 0; insn = insn; frame = g; there = refl; starts = same; has = ap Some e; fits = h }
-
-    by_test : (t : Bool) → (insn.pc == to) ≡ t → (EdgeFits Below code frames f to → Landing Below code frames f to) → IsSomeAnd (cond t frame (frame_at_pc code frames to)) (λ g. Below f g) → Landing Below (insn ∷ code) (frame ∷ frames) f to
-    by_test true e more h = here frame refl (grind (arith, nat_tests, e)) h
-    by_test false e more h = let l = more h in record { number = suc l.number; insn = l.insn; frame = l.frame; there = l.there; starts = l.starts; has = l.has; fits = l.fits }
 
 -- ---- what lands on first instructions fits by pcs
 
@@ -71,14 +69,13 @@ frames_of nodes = map (λ node. node.frame) nodes
 
 module _ {A R : Type 0} (p : Plan A R) (Below : A → A → Type 0) (o : Orders p.meeting Below) where
   lands_fit : (code : List Insn) (nodes : List (PlanNode A)) (f : A) (to : ℕ) → is_start code to ≡ true → length nodes ≡ length code → LandsOn p.meeting Below o code nodes f to → EdgeFits Below code (frames_of nodes) f to
-  lands_fit [] nodes f to s l h = absurd (cc)
-  lands_fit (insn ∷ code) [] f to s l h = absurd (omega (arith, l))
   lands_fit (insn ∷ code) (node ∷ nodes) f to s l h = by_test (insn.pc == to) refl s (λ t s. lands_fit code nodes f to s (omega (arith, l)) (λ j b first e. h (suc j) b (t, first) e))
     where
       by_test : (t : Bool) → (insn.pc == to) ≡ t → (t || is_start code to) ≡ true → ((insn.pc == to) ≡ false → is_start code to ≡ true → EdgeFits Below code (frames_of nodes) f to)
           → IsSomeAnd (cond t node.frame (frame_at_pc code (frames_of nodes) to)) (λ g. Below f g)
       by_test true t s more = h zero node t refl
       by_test false t s more = more t s
+  lands_fit code nodes f to s l h = absurd (first_of (cc, omega (arith, l)))
 
   module _ (L : ℕ → A → Type 0) (closed : IsClosed p L) where
     edge_leads : (f : A) (to : ℕ) → Lands L p.code f to → (j : ℕ) → IsFirstOf p.code to j → L j f
@@ -100,13 +97,9 @@ module _ {A R : Type 0} (p : Plan A R) (Below : A → A → Type 0) (o : Orders 
     entry_fits : (code : List Insn) (nodes : List (PlanNode A)) → Begins code → length nodes ≡ length code → ((b : PlanNode A) → slice_get nodes 0 ≡ Some b → IsBelow p.meeting Below o (Some p.first) b.frame) → EdgeFits Below code (frames_of nodes) p.first 0
     entry_fits code nodes b l h = subst (λ (c : List Insn). EdgeFits Below c (frames_of nodes) p.first 0) (sym b.2) (at nodes (l ∙ ap length b.2) h)
       where
-        by_test : (node : PlanNode A) (nodes : List (PlanNode A)) (t : Bool) → t ≡ true → IsBelow p.meeting Below o (Some p.first) node.frame → IsSomeAnd (cond t node.frame (frame_at_pc b.1 (frames_of nodes) 0)) (λ g. Below p.first g)
-        by_test node nodes true t h = h
-        by_test node nodes false t h = absurd (cc)
-
         at : (nodes : List (PlanNode A)) → length nodes ≡ suc (length b.1) → ((n : PlanNode A) → slice_get nodes 0 ≡ Some n → IsBelow p.meeting Below o (Some p.first) n.frame) → EdgeFits Below (b.0 ∷ b.1) (frames_of nodes) p.first 0
         at [] l h = absurd (omega (arith, l))
-        at (node ∷ nodes) l h = by_test node nodes (b.0.pc == 0) (eq-eqb b.0.pc 0 b.3) (h node refl)
+        at (node ∷ nodes) l h = rw (eq-eqb b.0.pc 0 b.3) (h node refl)
 
     pub local : Begins p.code → (frames : List (Option A)) → HasFrames p frames → IsLocal p Below L frames
     local b frames h =
