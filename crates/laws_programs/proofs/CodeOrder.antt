@@ -1,9 +1,8 @@
 -- Instructions follow one another, so that their pcs ascend.
 use Rattle.std.proofs.Common.{◌≡◌, ℕ, zero, suc, ◌+◌, ◌<◌, ◌≤◌, ◌⊎◌, inl, inr, ⊎_elim, true, false, cond, List, [], ◌∷◌, length, take, Some, refl, sym, ap, ◌∙◌, subst, arith, length-append, ◌==◌, slice_get}
 use Rattle.std.{specs.List.{AllByRecursion, AllZip}, proofs.lemmas.{Bool.{eq-eqb, or_cases, ne_eqb, Decides.nat_tests}, Slice.Zip.AllZip-long}}
-use Rattle.jvm_types.specs.{CodeGrammar.{SpellsInsns, is_start, IsStart, RowFits}, CodeTable.branches_to, ProgramInvariant.{IsMethodOf, IsRowOf, IsTargetOf, site_in}}
-use Rattle.jvm_types.specs.{Verifying.{IsLaidOut, new_class}, declared.{class_file.Handler.Handler, code.Insn.Insn, program.{MethodInfo.MethodInfo, Program.Program, Row.Row, Target.Target}}}
-use Rattle.jvm_types.proofs.EachAfter.{all_weaker}
+use Rattle.jvm_types.specs.{CodeGrammar.{SpellsInsns, is_start, IsStart, RowFits}, CodeTable.branches_to, ProgramInvariant.{IsMethodOf, IsRowOf, IsTargetOf, site_in}, Verifying.{IsLaidOut, new_class}}
+use Rattle.jvm_types.{specs.declared.{class_file.Handler.Handler, code.Insn.Insn, program.{MethodInfo.MethodInfo, Program.Program, Row.Row, Target.Target}}, proofs.EachAfter.all_weaker}
 use Rattle.laws_programs.specs.CodeLaws.{MethodsAreLaidOut, PcsAscend, OneInsn, PcsAreShort, CodeStarts, NextFollows, Begins, StartsBegin, BranchesBegin, HandlersBegin, InsnsHaveTargets, ClassOfNew}
 use Rattle.laws_programs.proofs.{FieldOrder.one_index, LeastFrames.some_front, LocalGoing.at_index}
 use Rattle.jvm_types.specs.declared.program.Target.TheVariants as targets

@@ -1,8 +1,7 @@
 -- The locals of the frame that a method begins with, place by place.
 use Rattle.std.proofs.Common.{◌≡◌, ℕ, zero, suc, ◌+◌, ◌-◌, ◌<◌, ◌≤◌, Bool, true, false, cond, List, [], ◌∷◌, ◌++◌, length, map, replicate, Some, refl, ap, ◌∙◌, arith, length-append, slice_get}
 use Rattle.std.{specs.Option.option_map, proofs.lemmas.{List.length-map, Option.slice_get-map}}
-use Rattle.jvm_types.specs.{CodeTable.type_of, Members.is_static, Types.receiver_types, declared.{program.MethodInfo.MethodInfo, typing.VType.{VType, TheVariants.Top}}}
-use Rattle.jvm_types.proofs.EachAfter.{front_at}
+use Rattle.jvm_types.{specs.{CodeTable.type_of, Members.is_static, Types.receiver_types, declared.{program.MethodInfo.MethodInfo, typing.VType.{VType, TheVariants.Top}}}, proofs.EachAfter.front_at}
 use Rattle.laws_programs.{specs.EntryLaws.{receiver_count, ArgumentsFit, EntryFramesFit, EntryHasReceiver, EntryHasArguments, EntryHasNoMore}, proofs.FrameLast.entry_locals}
 
 -- ---- lists

@@ -1,9 +1,8 @@
 -- The bounds of the frames of a typing: as many locals as max_locals, since the visit of pc 0 passed V3.
 use Rattle.std.proofs.Common.{◌≡◌, ℕ, suc, ◌-◌, ◌≤◌, false, ◌||◌, ltb, List, [], ◌∷◌, length, replicate, Option, Some, None, refl, sym, ap, ◌∙◌, subst, length-append, arith, ◌==◌, slice_get}
 use Rattle.std.{specs.List.AllByRecursion, proofs.lemmas.{Bool.{cond_both, or_parts, ltb-false, Decides.nat_tests}, List.length-replicate}}
-use Rattle.jvm_types.specs.{CodeTable.row, Types.{TypeFrame, filled, entry_type_frame}}
-use Rattle.jvm_types.specs.{Verifying.{names_no_local, lacks_locals, first_nodes, frame_at, FrameFits, IsFrameBelow, HasTyping, IsLaidOut, FrameLaw}, declared.code.Insn.Insn}
-use Rattle.jvm_types.specs.declared.{op_row.OpRow.OpRow, program.{MethodInfo.MethodInfo, Program.Program, Target.Target}, typing.VType.{VType, TheVariants.Top}}
+use Rattle.jvm_types.specs.{CodeTable.row, Types.{TypeFrame, filled, entry_type_frame}, declared.{code.Insn.Insn, op_row.OpRow.OpRow, program.{MethodInfo.MethodInfo, Program.Program, Target.Target}}}
+use Rattle.jvm_types.specs.{Verifying.{names_no_local, lacks_locals, first_nodes, frame_at, FrameFits, IsFrameBelow, HasTyping, IsLaidOut, FrameLaw}, declared.typing.VType.{VType, TheVariants.Top}}
 use Rattle.laws_programs.proofs.{FrameBounds.{IsBounded, within_locals}, LocalBrought.IsFrameBounded, LocalGoing.{at_index, begins, first_going, all_go, local_law}}
 
 filled_length : (n : ℕ) (ts : List VType) → n ≤ length (filled n ts)
@@ -16,7 +15,8 @@ few_locals m r f e = ltb-false m.max_locals (length f.locals) (or_parts (names_n
 entry_there : (insn : Insn) (code : List Insn) (frames : List (Option TypeFrame)) (f : TypeFrame) → insn.pc ≡ 0 → FrameFits (insn ∷ code) frames f 0 → (g : TypeFrame) × (slice_get frames 0 ≡ Some (Some g))
 entry_there insn code [] f e h = absurd h
 entry_there insn code (Some g ∷ frames) f e h = (g, refl)
-entry_there insn code (None ∷ frames) f e h = absurd (cond_both (insn.pc == 0) None (frame_at code frames 0) (λ o. IsFrameBelow (Some f) o → ⊥) (λ t h. h) (λ t. absurd (grind (arith, nat_tests, e, t))) h)
+entry_there insn code (None ∷ frames) f e h =
+    absurd (cond_both (insn.pc == 0) None (frame_at code frames 0) (λ o. IsFrameBelow (Some f) o → ⊥) (λ t h. h) (λ t. absurd (grind (arith, nat_tests, e, t))) h)
 
 -- and a target
 target_there : (targets : List Target) (n : ℕ) → length targets ≡ suc n → (target : Target) × (slice_get targets 0 ≡ Some target)

@@ -37,7 +37,8 @@ pub brought_below : (code : List Insn) (to : ℕ) (f : TypeFrame) (nodes : List 
     → AreBelow (brought code to f nodes) others
 brought_below (insn ∷ insns) to f (node ∷ nodes) [] below fits = absurd below
 brought_below (insn ∷ insns) to f (node ∷ nodes) (g ∷ others) below fits =
-    (elim (insn.pc == to) as (λ b. IsBelowSome f (if b then g else frame_at insns others to) → AreBelow (if b then node_met node node.frame f ∷ nodes else node ∷ brought insns to f nodes) (g ∷ others)) [
+    (elim (insn.pc == to) as (λ b. IsBelowSome f (if b then g else frame_at insns others to)
+    → AreBelow (if b then node_met node node.frame f ∷ nodes else node ∷ brought insns to f nodes) (g ∷ others)) [
       | true ↦ λ fit. (joined_below node node.frame f g below.0 fit, below.1)
       | false ↦ λ fit. (below.0, brought_below insns to f nodes others below.1 fit)
     ]) fits
@@ -141,7 +142,8 @@ no_clash_each code tos f nodes others once below fits = refl
 fits_each : (code : List Insn) (others : List (Option TypeFrame)) (f : TypeFrame) (tos : List ℕ) → AllByRecursion (FrameFits code others f) tos → FitsEach code others tos f
 fits_each code others f [] fits to h k = absurd (cc)
 fits_each code others f (first ∷ tos) fits to h k = ⊎_elim
-    (λ (e : (first == to) ≡ true). subst (FrameFits code others f) (eqb-true first to e) fits.0) (λ (e : has_number tos to ≡ true). fits_each code others f tos fits.1 to e k) (or_cases (first == to) (has_number tos to) h)
+    (λ (e : (first == to) ≡ true). subst (FrameFits code others f) (eqb-true first to e) fits.0)
+    (λ (e : has_number tos to ≡ true). fits_each code others f tos fits.1 to e k) (or_cases (first == to) (has_number tos to) h)
 
 pub no_clash : (code : List Insn) (tos : List ℕ) (f : TypeFrame) (nodes : List Node) (others : List (Option TypeFrame)) → AreDistinct code → AreBelow nodes others
     → AllByRecursion (FrameFits code others f) tos → clash code tos (length f.stack) nodes ≡ None

@@ -1,9 +1,8 @@
 -- The visits keep every frame at or below that of an assignment, and break no rule but V7.
 use Rattle.std.{proofs.Common.{◌≡◌, ℕ, true, false, List, [], ◌∷◌, length, map, Option, Some, None, Result, Ok, Err, refl, sym, subst, arith, slice_get, slice_set}, specs.List.AllByRecursion}
-use Rattle.jvm_types.specs.{CodeGrammar.SpellsInsns, CodeTable.row, Types.{TypeFrame, frame_below, entry_type_frame}}
+use Rattle.jvm_types.specs.{CodeGrammar.SpellsInsns, CodeTable.row, Types.{TypeFrame, frame_below, entry_type_frame}, declared.{code.Insn.Insn, op_row.OpRow.OpRow, program.MethodInfo.MethodInfo}}
 use Rattle.jvm_types.specs.Verifying.{Node, node_at, first_nodes, broken_before, frame_after, edges, frame_at_handler, catch_fault, brought, all_brought, clash, handled, unless_broken, covering, gone_on, visited_row, visited_insn, visited, Visits, Breaks, frame_at, FrameFits, IsSound, IsAssignment, IsLaidOut, LeastLaw, RefusalLaw}
-use Rattle.jvm_types.specs.declared.{code.Insn.Insn, op_row.OpRow.OpRow, program.{MethodInfo.MethodInfo, Program.Program, Row.Row, Target.Target}, refusal.VRule.{VRule, TheVariants.V7}}
-use Rattle.jvm_types.proofs.FrameOrder.{parts_below, locals_below, ready_below, pairs_self}
+use Rattle.jvm_types.{specs.declared.{program.{Program.Program, Row.Row, Target.Target}, refusal.VRule.{VRule, TheVariants.V7}}, proofs.FrameOrder.{parts_below, locals_below, ready_below, pairs_self}}
 use Rattle.laws_programs.proofs.LeastFrames.{AreBelow, AreDistinct, below_some, fits_below, brought_below, all_brought_below, quiet_below, Above, frame_above, frames_below, distinct, no_clash}
 use Rattle.laws_programs.proofs.{MonoFrames.after_below, MonoRules.{v7_alone, suit_at}}
 

@@ -54,7 +54,8 @@ module _ (m : MethodInfo) (f : TypeFrame) (b : IsBounded m f) where
     brought_risen [] nodes c d = all_risen_self nodes
     brought_risen (insn ∷ code) [] c d = tt
     brought_risen (insn ∷ code) (node ∷ nodes) c d =
-        (elim (insn.pc == to) as (λ t. IsDeep (length f.stack) (cond t node.frame (frame_at code (frames_of nodes) to)) → AreRisen (node ∷ nodes) (cond t (node_met node node.frame f ∷ nodes) (node ∷ brought code to f nodes))) [
+        (elim (insn.pc == to) as (λ t. IsDeep (length f.stack) (cond t node.frame (frame_at code (frames_of nodes) to))
+        → AreRisen (node ∷ nodes) (cond t (node_met node node.frame f ∷ nodes) (node ∷ brought code to f nodes))) [
           | true ↦ λ d. (joined_risen node.waits node.frame c.0 d, all_risen_self nodes)
           | false ↦ λ d. ((all_risen_self (node ∷ [])).0, brought_risen code nodes c.1 d)
         ]) d

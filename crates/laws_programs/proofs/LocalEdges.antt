@@ -1,9 +1,8 @@
 -- What the nodes are after the normal edges of an instruction, and after those to its handlers.
 use Rattle.std.{proofs.Common.{◌≡◌, ℕ, Bool, true, false, cond, ◌&&◌, List, [], ◌∷◌, length, Option, Some, None, Result, Ok, refl, sym, ◌∙◌, subst, arith, ◌==◌}, specs.List.AllByRecursion}
 use Rattle.std.proofs.lemmas.Bool.{cond_both, eqb-true, not-false, or_left, or_right, Decides.nat_tests}
-use Rattle.jvm_types.specs.{CodeGrammar.is_start, Numbers.has_number, Types.TypeFrame}
-use Rattle.jvm_types.specs.{Verifying.{Node, brought, all_brought, has_other_depth, clash, unless_caught, catch_fault, frame_at_handler, handled, frame_at, FrameFits}, declared.code.Insn.Insn}
-use Rattle.jvm_types.specs.declared.{program.{MethodInfo.MethodInfo, Row.Row}, refusal.VRule.VRule}
+use Rattle.jvm_types.specs.{CodeGrammar.is_start, Numbers.has_number, Types.TypeFrame, declared.{code.Insn.Insn, program.{MethodInfo.MethodInfo, Row.Row}, refusal.VRule.VRule}}
+use Rattle.jvm_types.specs.Verifying.{Node, brought, all_brought, has_other_depth, clash, unless_caught, catch_fault, frame_at_handler, handled, frame_at, FrameFits}
 use Rattle.laws_programs.proofs.{FrameBounds.{IsBounded, handler_bounded}, LocalBrought.{AreBounded, IsDeep, brought_risen, brought_bounded, brought_deep, brought_fits}}
 use Rattle.laws_programs.proofs.LocalRisen.{AreRisen, all_risen_self, all_risen_trans, risen_length, frames_of, fits_risen}
 

@@ -60,7 +60,8 @@ first_bounded m [] = tt
 first_bounded m (insn ∷ code) = (entry_bounded m, none_bounded m code)
 
 first_entry : (m : MethodInfo) (insn : Insn) (code : List Insn) → insn.pc ≡ 0 → FrameFits (insn ∷ code) (frames_of (first_nodes m (insn ∷ code))) (entry_type_frame m) 0
-first_entry m insn code e = cond_both (insn.pc == 0) (Some (entry_type_frame m)) _ (IsFrameBelow (Some (entry_type_frame m))) (λ t. frame_self (Some (entry_type_frame m))) (λ t. absurd (grind (arith, nat_tests, e, t)))
+first_entry m insn code e =
+    cond_both (insn.pc == 0) (Some (entry_type_frame m)) _ (IsFrameBelow (Some (entry_type_frame m))) (λ t. frame_self (Some (entry_type_frame m))) (λ t. absurd (grind (arith, nat_tests, e, t)))
 
 some_same : {a b : Node} → Some a ≡ Some b → a ≡ b
 some_same e = cc

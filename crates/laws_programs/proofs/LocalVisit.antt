@@ -1,10 +1,9 @@
 -- One visit: no rule is broken at the instruction, and what it brings fits.
 use Rattle.std.proofs.Common.{◌≡◌, ℕ, zero, suc, Bool, true, false, cond, not, ◌&&◌, ◌||◌, List, [], ◌∷◌, length, Option, Some, None, Result, Ok, refl, sym, ap, ◌∙◌, subst, length-set, ◌==◌, slice_get}
 use Rattle.std.{specs.List.{AllByRecursion, list_any}, proofs.lemmas.Bool.not-false}
-use Rattle.jvm_types.specs.{CodeGrammar.is_start, CodeTable.{row, branches_to, falls_through}, Types.TypeFrame}
+use Rattle.jvm_types.specs.{CodeGrammar.is_start, CodeTable.{row, branches_to, falls_through}, Types.TypeFrame, declared.{code.Insn.Insn, op_row.OpRow.OpRow, program.{MethodInfo.MethodInfo, Row.Row}}}
 use Rattle.jvm_types.specs.Verifying.{Node, node_at, broken_before, broken_after, returns_wrongly, falls_off, edges, frame_after, all_brought, clash, covering, handled, unless_broken, unless_clash, gone_on, visited_row, visited_insn, visited, frame_at_handler, FrameFits, IsSound}
-use Rattle.jvm_types.specs.declared.{code.Insn.Insn, op_row.OpRow.OpRow, program.{MethodInfo.MethodInfo, Program.Program, Row.Row, Target.Target}, refusal.VRule.{VRule, TheVariants.{V6, V8}}}
-use Rattle.jvm_types.proofs.EachAfter.{all_append, all_weaker}
+use Rattle.jvm_types.{specs.declared.{program.{Program.Program, Target.Target}, refusal.VRule.{VRule, TheVariants.{V6, V8}}}, proofs.EachAfter.{all_append, all_weaker}}
 use Rattle.laws_programs.proofs.{FrameBounds.{IsBounded, unbroken, after_bounded}, LocalBrought.{IsFrameBounded, AreBounded}, LocalEdges.{Carries, all_carried, all_fit, edges_deep, Handles, handles}}
 use Rattle.laws_programs.proofs.{LocalRisen.{AreRisen, all_risen_self, all_risen_trans, risen_length, frames_of, fits_risen}, VisitsEnd.{cleared, unless_broken_ok}}
 

@@ -1,10 +1,9 @@
 -- The rules at one instruction, but those on uninitialised objects: where none is broken at a frame, none is below it.
 use Rattle.std.proofs.Common.{◌≡◌, ℕ, zero, suc, ◌-◌, ◌+◌, Bool, true, false, not, ◌||◌, List, [], ◌∷◌, length, Option, Some, None, refl, ap, ◌∙◌, nat_lt, slice_get}
 use Rattle.std.proofs.lemmas.Bool.{or_parts, or_from, not-false}
-use Rattle.jvm_types.specs.Types.{TypeFrame, is_below, all_pairs, frame_below}
+use Rattle.jvm_types.specs.{Types.{TypeFrame, is_below, all_pairs, frame_below}, declared.{code.Insn.Insn, op_row.{OpRow.OpRow, Want.Want}, program.MethodInfo.MethodInfo, refusal.VRule.VRule}}
 use Rattle.jvm_types.specs.Verifying.{suits, some_taken, is_fault_at_local, some_read, first_broken, takes_too_many, gives_too_many, names_no_local, lacks_locals, misuses_object, mistypes, broken_before}
-use Rattle.jvm_types.specs.declared.{code.Insn.Insn, op_row.{OpRow.OpRow, Want.Want}, program.MethodInfo.MethodInfo, refusal.VRule.{VRule, TheVariants.{V1, V2, V3, V4, V7}}, typing.VType.VType}
-use Rattle.jvm_types.proofs.FrameOrder.{pairs_length, stack_below, locals_below}
+use Rattle.jvm_types.{specs.declared.{refusal.VRule.TheVariants.{V1, V2, V3, V4, V7}, typing.VType.VType}, proofs.FrameOrder.{pairs_length, stack_below, locals_below}}
 use Rattle.laws_programs.proofs.{MonoFrames.{mismatch, head_below, tail_below}, MonoTypes.suits_below}
 
 -- ---- types of operands

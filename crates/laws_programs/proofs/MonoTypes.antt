@@ -70,7 +70,8 @@ holder_below m class t u h k = below_trans t u (Ref class) h k
 reference_below : (t u : VType) → is_below t u ≡ true → (is_uninitialised u || is_below u (Ref OBJECT_CLASS)) ≡ true → (is_uninitialised t || is_below t (Ref OBJECT_CLASS)) ≡ true
 reference_below t u h k = ⊎_elim
     (λ (e : is_uninitialised u ≡ true). or_left (is_uninitialised t) (is_below t (Ref OBJECT_CLASS)) (subst (λ (v : VType). is_uninitialised v ≡ true) (sym (below_object t u e h)) e))
-    (λ (e : is_below u (Ref OBJECT_CLASS) ≡ true). or_right (is_uninitialised t) (is_below t (Ref OBJECT_CLASS)) (below_trans t u (Ref OBJECT_CLASS) h e)) (or_cases (is_uninitialised u) (is_below u (Ref OBJECT_CLASS)) k)
+    (λ (e : is_below u (Ref OBJECT_CLASS) ≡ true). or_right (is_uninitialised t) (is_below t (Ref OBJECT_CLASS)) (below_trans t u (Ref OBJECT_CLASS) h e))
+    (or_cases (is_uninitialised u) (is_below u (Ref OBJECT_CLASS)) k)
 
 pub suits_below : (m : MethodInfo) (want : Want) (t u : VType) → is_below t u ≡ true → suits m want u ≡ true → suits m want t ≡ true
 suits_below m AnyValue t u h k = refl

@@ -1,10 +1,9 @@
 -- A value that a `new` made and no `<init>` was called on stays behind its `new` along each edge.
 use Rattle.std.proofs.Common.{◌≡◌, ℕ, suc, ◌<◌, ◌≤◌, Bool, true, false, not, ◌&&◌, ◌||◌, List, [], ◌∷◌, None, refl, arith, ⊎_elim, ◌==◌, nat_le, if◌then◌else◌}
 use Rattle.std.{specs.List.{AllByRecursion, list_any, filter}, proofs.lemmas.Bool.{and_parts, cases_lt, cond_both, eqb-true, le-leb, or_cases, or_left, or_parts, or_right}}
-use Rattle.jvm_types.specs.{CodeTable.{row, branches_to, falls_through}, Numbers.has_number, Types.{TypeFrame, is_below, all_pairs, is_new, is_uninitialised}}
-use Rattle.jvm_types.specs.{Verifying.{broken_before, some_operand, misuses, is_return, frame_after, frame_at_handler, covers}, declared.{code.{Insn.Insn, Op.Op}, program.MethodInfo.MethodInfo}}
-use Rattle.jvm_types.{specs.declared.{program.{Program.Program, Row.Row, Target.Target}, typing.VType.{VType, TheVariants.{New, Top}}}, proofs.EachAfter.all_append}
-use Rattle.jvm_types.proofs.FrameOrder.{stack_below, locals_below}
+use Rattle.jvm_types.specs.{CodeTable.{row, branches_to, falls_through}, Numbers.has_number, Types.{TypeFrame, is_below, all_pairs, is_new, is_uninitialised}, declared.code.{Insn.Insn, Op.Op}}
+use Rattle.jvm_types.specs.{Verifying.{broken_before, some_operand, misuses, is_return, frame_after, frame_at_handler, covers}, declared.program.{MethodInfo.MethodInfo, Program.Program, Row.Row}}
+use Rattle.jvm_types.{specs.declared.{program.Target.Target, typing.VType.{VType, TheVariants.{New, Top}}}, proofs.{EachAfter.all_append, FrameOrder.{stack_below, locals_below}}}
 use Rattle.laws_programs.{specs.NewLaws.{IsNewBefore, AreBehind, NewStaysBehind, BehindRises}, proofs.{LocalEdges.{picks, second_false}, RowsKeep.{IsFine, IsFineWrite, types_fine, row_fine}}}
 use Rattle.laws_programs.proofs.RuleUses.{hold}
 use Rattle.jvm_types.specs.declared.code.Op.TheVariants as ops

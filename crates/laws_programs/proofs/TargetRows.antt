@@ -1,9 +1,8 @@
 -- The row of an instruction with a constant, target by target.
 use Rattle.std.proofs.{Common.{◌≡◌, ℕ, Bool, true, false, cond, not, ◌&&◌, ◌||◌, List, [], ◌∷◌, Option, Some, None, refl, IsSomeAnd, slice_get}, lemmas.Bool.{and_parts, not-false}}
-use Rattle.jvm_types.specs.CodeTable.{row}
+use Rattle.jvm_types.specs.{CodeTable.row, ProgramInvariant.{IsTargetOf, site_in}, declared.{call.Call.{Call, TheVariants.{Virtual, Special, Static}}, code.Op.Op, op_row.OpRow.OpRow}}
 use Rattle.jvm_types.specs.Members.{is_static, is_init_name, is_class_init_name, is_final, is_other_sort, is_hidden, initializes, first_rule, MethodSite, field_rule, call_rule, fits_call}
-use Rattle.jvm_types.specs.{ProgramInvariant.{IsTargetOf, site_in}, declared.{call.Call.{Call, TheVariants.{Virtual, Special, Static}}, code.Op.Op, op_row.OpRow.OpRow, program.FieldInfo.FieldInfo}}
-use Rattle.jvm_types.specs.declared.{program.{MethodInfo.MethodInfo, Program.Program, Target.Target}, refusal.LRule.{LRule, TheVariants.{L2, L3, L7}}}
+use Rattle.jvm_types.specs.declared.{program.{FieldInfo.FieldInfo, MethodInfo.MethodInfo, Program.Program, Target.Target}, refusal.LRule.{LRule, TheVariants.{L2, L3, L7}}}
 use Rattle.laws_programs.specs.TargetLaws.{NamesField, NamesMethod, HasRow, TargetsHaveRows}
 use Rattle.jvm_types.specs.declared.code.Op.TheVariants as ops
 use Rattle.jvm_types.specs.declared.program.Target.TheVariants as targets

@@ -2,10 +2,9 @@
 -- wait has a frame that went down; one without a frame is above all frames that a method can have.
 use Rattle.std.proofs.Common.{◌≡◌, ℕ, zero, suc, ◌+◌, ◌-◌, ◌*◌, ◌<◌, ◌≤◌, Bool, true, false, List, [], ◌∷◌, length, map, Option, Some, None, Result, Ok, refl, ap, subst, arith, ◌||◌, not, ◌==◌, if◌then◌else◌, slice_get, slice_set}
 use Rattle.std.{specs.List.AllByRecursion, proofs.lemmas.{Bool.{cond_both, Decides.nat_tests}, List.{length-append, length-drop, length-map}}}
-use Rattle.jvm_types.specs.{CodeTable.{row, stack_after, locals_after}, Types.{TypeFrame, meet_frames, same_frame, entry_type_frame}}
+use Rattle.jvm_types.specs.{CodeTable.{row, stack_after, locals_after}, Types.{TypeFrame, meet_frames, same_frame, entry_type_frame}, declared.{code.Insn.Insn, op_row.OpRow.OpRow, program.Row.Row}}
 use Rattle.jvm_types.specs.Verifying.{Node, node_at, first_nodes, node_met, brought, all_brought, clash, frame_at_handler, catch_fault, unless_caught, handled, unless_broken, unless_clash, covering, edges, takes_too_many, gives_too_many, broken_before, broken_after, started, initialised, after_start, frame_after, gone_on, visited_row, visited_insn, visited, waiting_from, next_visit, IsLaidOut}
-use Rattle.jvm_types.specs.declared.{code.Insn.Insn, op_row.{OpRow.OpRow}, program.{MethodInfo.MethodInfo, Program.Program, Row.Row, Target.Target}, refusal.VRule.VRule}
-use Rattle.jvm_types.specs.declared.{refusal.VRule.TheVariants.{V1, V2}, typing.VType.{VType, TheVariants.Top}}
+use Rattle.jvm_types.specs.declared.{program.{MethodInfo.MethodInfo, Program.Program, Target.Target}, refusal.VRule.{VRule, TheVariants.{V1, V2}}, typing.VType.{VType, TheVariants.Top}}
 use Rattle.laws_programs.proofs.{FrameBounds.locals_kept, VisitsEndRanks.{Falls, types_rank, types_falls, types_small, meets_short}}
 
 -- ---- bounds on the frames
