@@ -1,5 +1,6 @@
 -- Of a type that suits a want every type below it does, and uninitialised types are below themselves and Top alone.
-use Rattle.std.proofs.{Common.{◌≡◌, ℕ, Bool, true, false, ◌||◌, ◌⊎◌, ⊎_elim, refl, ap, sym, subst, inl, inr, ◌∙◌, arith, eqb-true, if◌then◌else◌}, lemmas.Bool.{or_cases, or_left, or_right, Decides.nat_tests}}
+use Rattle.std.proofs.Common.{◌≡◌, ℕ, Bool, true, false, ◌||◌, ◌⊎◌, ⊎_elim, refl, ap, sym, subst, inl, inr, ◌∙◌, arith, eqb-true, if◌then◌else◌}
+use Rattle.std.proofs.lemmas.Bool.{or_cases, or_left, or_right, Decides.nat_tests}
 use Rattle.jvm_types.specs.{Types.{is_below, is_uninitialised, same_type}, Verifying.suits, declared.{class_numbers.TheConstants.OBJECT_CLASS, op_row.Want.Want}}
 use Rattle.jvm_types.specs.declared.{op_row.Want.TheVariants.{AnyValue, AnInt, AnObject, AnyReference, AHolder, ToStart}, program.MethodInfo.MethodInfo, typing.VType.VType}
 use Rattle.jvm_types.{specs.declared.typing.VType.TheVariants.{Int, Ref, This, New, Top}, proofs.TypeOrder.{below_top, below_trans, subclass_self}}
