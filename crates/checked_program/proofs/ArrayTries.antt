@@ -1,9 +1,10 @@
 -- Owned arrays, tried: a class that keeps two numbers in an array of its own, and the same with a method that hands the array out.
-use Rattle.std.proofs.Common.{◌≡◌, ◌<◌, ◌⊎◌, inl, inr, ℕ, zero, suc, pos, Bool, true, false, List, [], ◌∷◌, Option, Some, None, refl, sym, ap, ◌∙◌, subst, arith, ◌↔◌, codes, replicate, slice_get}
-use Rattle.jvm_types.specs.{Members.{is_private, is_static, is_final}, declared.{code.Insn.Insn, program.{FieldInfo.FieldInfo, MethodInfo.MethodInfo, Program.Program, Target.Target}}}
-use Rattle.checked_program.specs.{Colours.{ColourShape, is_coloured, IsColouring}, FrozenPlaces.{IsFrozenField, IsFrozenUse, IsGuardedUse, IsUse}, LockTags.TagShape}
-use Rattle.checked_program.specs.{Marks.{section_fault, Applies, itself, HasMark}, OwnedArrays.{IsOwnedArrayField, IsOwnedAt, owns_arrays, reads_owned, AreUses, UsesArrayWell}}
-use Rattle.checked_program.specs.{Sections.{Section, section_mode}, TaggedCode.{Tagged, IsAt}, declared.section.{FieldUse.{FieldUse, TheVariants.{Frozen, Open}}, Spot.TheVariants.Method, Uses.Uses}}
+use Rattle.std.proofs.Common.{◌≡◌, inl, inr, ℕ, zero, suc, pos, true, false, List, [], ◌∷◌, Some, None, refl, sym, ap, ◌∙◌, subst, arith, ◌↔◌, codes, replicate, slice_get}
+use Rattle.std.proofs.lemmas.Bool.{false≢true, true≢false}
+use Rattle.jvm_types.specs.{Members.{is_private, is_static, is_final}, declared.{program.{FieldInfo.FieldInfo, MethodInfo.MethodInfo, Program.Program}}}
+use Rattle.checked_program.specs.{Colours.{ColourShape, is_coloured, IsColouring}, FrozenPlaces.{IsFrozenField, IsFrozenUse, IsGuardedUse, IsUse}}
+use Rattle.checked_program.specs.{Marks.{HasMark}, OwnedArrays.{IsOwnedArrayField, IsOwnedAt, owns_arrays, AreUses, UsesArrayWell}}
+use Rattle.checked_program.specs.{declared.section.{FieldUse.{FieldUse, TheVariants.{Frozen, Open}}, Uses.Uses}}
 use Rattle.checked_program.proofs.{FrozenChecks.{is_frozen, is_written_guarded}, MarkChecks.{section, breaks_own, first_is, none_applies, not_beyond, none_is_called}}
 use Rattle.checked_program.proofs.OwnedChecks.{gets_are_on_this, puts_are_new, are_used_well, elements_are, no_elements, no_elements_long, none_is_set, no_owners, none_owns}
 use Rattle.checked_program.proofs.TriedPrograms.{method, op, names, program, tags_of}
@@ -68,31 +69,25 @@ is_owned = record {
 final_is_frozen : IsFrozenField kept (tags_of kept) 0
 final_is_frozen = record { field = _; is = refl; final = refl; instance = refl; frozen = is_frozen kept (tags_of kept) 17 refl }
 
+that_is_static : (field : FieldInfo) → slice_get fields 1 ≡ Some field → static_object ≡ field
+that_is_static field e = cc
+
 static_is_open : (p : Program) → p.fields ≡ fields → IsUse p (tags_of p) 1 Open
 static_is_open p e = (not_frozen, not_guarded)
   where
-    that_is_static : (field : FieldInfo) → slice_get fields 1 ≡ Some field → static_object ≡ field
-    that_is_static field h = cc
-
     it : (field : FieldInfo) → slice_get p.fields 1 ≡ Some field → static_object ≡ field
     it field h = that_is_static field (subst (λ (fs : List FieldInfo). slice_get fs 1 ≡ Some field) e h)
 
     no_instance : (field : FieldInfo) → static_object ≡ field → is_static field.flags ≡ false → ⊥
-    no_instance field h k = let x : true ≡ false = subst (λ (y : FieldInfo). is_static y.flags ≡ false) (sym h) k in by_sorts x
-      where
-        by_sorts : true ≡ false → ⊥
-        by_sorts x = cc
-
-    by_false : false ≡ true → ⊥
-    by_false x = cc
+    no_instance field h k = true≢false (subst (λ (y : FieldInfo). is_static y.flags ≡ false) (sym h) k)
 
     not_frozen : IsFrozenUse p (tags_of p) 1 → ⊥
     not_frozen (inl f) = no_instance f.field (it f.field f.is) f.instance
-    not_frozen (inr f) = by_false (subst (λ (y : FieldInfo). is_final y.flags ≡ true) (sym (it f.field f.is)) f.final)
+    not_frozen (inr f) = false≢true (subst (λ (y : FieldInfo). is_final y.flags ≡ true) (sym (it f.field f.is)) f.final)
 
     not_guarded : IsGuardedUse p (tags_of p) 1 → ⊥
     not_guarded (inl g) = no_instance g.field (it g.field g.is) g.instance
-    not_guarded (inr g) = by_false (subst (λ (y : FieldInfo). is_private y.flags ≡ true) (sym (it g.field g.is)) g.private)
+    not_guarded (inr g) = false≢true (subst (λ (y : FieldInfo). is_private y.flags ≡ true) (sym (it g.field g.is)) g.private)
 
 -- the elements that `sum` reads
 abbrev uses : Uses
@@ -105,27 +100,12 @@ use_of (suc (suc fi)) u e = cc
 
 -- the static field holds no array
 static_owns_none : (p : Program) → p.fields ≡ fields → IsOwnedArrayField p (tags_of p) 1 → ⊥
-static_owns_none p e o = by_sorts (ap (λ (field : FieldInfo). is_static field.flags) (that_is_static o.field (subst (λ (fs : List FieldInfo). slice_get fs 1 ≡ Some o.field) e o.is)) ∙ o.instance)
-  where
-    that_is_static : (field : FieldInfo) → slice_get fields 1 ≡ Some field → static_object ≡ field
-    that_is_static field h = cc
-
-    by_sorts : true ≡ false → ⊥
-    by_sorts x = cc
+static_owns_none p e o = true≢false (ap (λ (field : FieldInfo). is_static field.flags) (that_is_static o.field (subst (λ (fs : List FieldInfo). slice_get fs 1 ≡ Some o.field) e o.is)) ∙ o.instance)
 
 own_is : (fi : ℕ) → (owns_arrays uses fi ≡ true) ↔ IsOwnedArrayField kept (tags_of kept) fi
 own_is zero = (λ h. is_owned, λ o. refl)
-own_is (suc zero) = (λ h. absurd (by_false h), λ o. absurd (static_owns_none kept refl o))
-  where
-    by_false : false ≡ true → ⊥
-    by_false x = cc
-own_is (suc (suc fi)) = (λ h. absurd (by_false h), λ o. absurd (by_none o.field o.is))
-  where
-    by_false : false ≡ true → ⊥
-    by_false x = cc
-
-    by_none : (field : FieldInfo) → None ≡ Some field → ⊥
-    by_none field e = cc
+own_is (suc zero) = (λ h. absurd (false≢true h), λ o. absurd (static_owns_none kept refl o))
+own_is (suc (suc fi)) = (λ h. absurd (false≢true h), λ o. absurd (let bad : None ≡ Some o.field = o.is in cc))
 
 uses_are : AreUses kept (tags_of kept) uses
 uses_are = record { fields = record { long = refl; each = use_of }; few = refl; owners = own_is; long = (refl, (refl, (refl, tt))); elements = elements_are 0 kept (tags_of kept) uses is_owned refl refl refl }
@@ -152,18 +132,12 @@ returned colours k =
 leaks : IsOwnedArrayField leaking (tags_of leaking) 0 → ⊥
 leaks o =
     let u : UsesArrayWell leaking (tags_of leaking) 3 0 = o.used 3 leak refl (ap (λ (field : FieldInfo). field.class) (that_is_array o.field o.is)) in
-    by_false (u.taken 2 _ _ _ _ (record { in_program = refl; in_code = refl; names = refl; frames = _; of_method = refl; frame = refl }) 0 (omega arith) (returned u.colours u.colouring))
-  where
-    by_false : false ≡ true → ⊥
-    by_false x = cc
+    false≢true (u.taken 2 _ _ _ _ (record { in_program = refl; in_code = refl; names = refl; frames = _; of_method = refl; frame = refl }) 0 (omega arith) (returned u.colours u.colouring))
 
 that_is_first : (fi : ℕ) → IsOwnedArrayField leaking (tags_of leaking) fi → fi ≡ 0
 that_is_first zero o = refl
 that_is_first (suc zero) o = absurd (static_owns_none leaking refl o)
-that_is_first (suc (suc fi)) o = absurd (by_none o.field o.is)
-  where
-    by_none : (field : FieldInfo) → None ≡ Some field → ⊥
-    by_none field e = cc
+that_is_first (suc (suc fi)) o = absurd (let bad : None ≡ Some o.field = o.is in cc)
 
 none_is_owned : (mi i k : ℕ) → IsOwnedAt leaking (tags_of leaking) mi i k → ⊥
 none_is_owned mi i k at = leaks (subst (λ (fi : ℕ). IsOwnedArrayField leaking (tags_of leaking) fi) (that_is_first at.fi at.owned) at.owned)

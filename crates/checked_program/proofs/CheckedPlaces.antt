@@ -14,10 +14,9 @@ use Rattle.jvm_types.specs.declared.program.Target.TheVariants as targets
 -- ---- typings at their numbers
 
 typing_at : (p : Program) (ms : List MethodInfo) (ts : List Typing) (i : ℕ) (m : MethodInfo) → AreTypings p ms ts → slice_get ms i ≡ Some m → (t : Typing) × (slice_get ts i ≡ Some t) × IsTypingOf p m t
-typing_at p [] ts i m all e = absurd (cc)
-typing_at p (n ∷ ms) [] i m all e = absurd all
 typing_at p (n ∷ ms) (t ∷ ts) zero m all e = let same : n ≡ m = cc in (t, refl, subst (λ (x : MethodInfo). IsTypingOf p x t) same all.0)
 typing_at p (n ∷ ms) (t ∷ ts) (suc i) m all e = typing_at p ms ts i m all.1 e
+typing_at p ms ts i m all e = absurd (first_of (assumption, cc))
 
 pub checked_sound : CheckedIsSound
 checked_sound c number m is e =
@@ -79,9 +78,8 @@ record Takes (called : MethodInfo) (r : OpRow) : Type 0 where
   one : is_static called.flags ≡ false → receiver ≡ receiver_want (is_init called) called.class ∷ []
 
 pub no_init : (a b c : Bool) → not (a || b || c) ≡ true → b ≡ false
-no_init true b c e = absurd (cc)
-no_init false true c e = absurd (cc)
 no_init false false c e = refl
+no_init a b c e = absurd (cc)
 
 virtual_takes : (called : MethodInfo) → is_init called ≡ false → Takes called (virtual_row (Some called))
 virtual_takes called e = record { receiver = AnObject called.class ∷ []; is = refl; one = λ h. ap (λ b. receiver_want b called.class ∷ []) (sym e) }
@@ -138,9 +136,8 @@ among pc class (r ∷ rows) handler e = by_cover (covers pc r) e (among pc class
 
     by_catch : (b c : Bool) → cond (b || c) (Some r) rest ≡ Some handler → (rest ≡ Some handler → (k : ℕ) × (slice_get (until_all later) k ≡ Some handler))
         → (k : ℕ) × (slice_get (cond b (r ∷ []) (r ∷ until_all later)) k ≡ Some handler)
-    by_catch true c e more = (0, e)
-    by_catch false true e more = (0, e)
     by_catch false false e more = let m = more e in (suc m.0, m.1)
+    by_catch b c e more = (0, e)
 
     by_cover : (a : Bool) → cond (a && (catches_all r || is_subclass class r.catch_class)) (Some r) rest ≡ Some handler → (rest ≡ Some handler → (k : ℕ) × (slice_get (until_all later) k ≡ Some handler))
         → (k : ℕ) × (slice_get (until_all (cond a (r ∷ later) later)) k ≡ Some handler)

@@ -1,13 +1,11 @@
 -- Sections on a class, tried: two private static fields that static synchronized methods write and read, and the same with one
 -- of them for all to write.
-use Rattle.std.proofs.Common.{◌≡◌, ◌<◌, ◌⊎◌, inl, inr, ℕ, zero, suc, pos, true, false, List, [], ◌∷◌, Some, None, refl, sym, subst, arith, codes, slice_get}
-use Rattle.std.proofs.lemmas.Bool.{false≢true, true≢false}
-use Rattle.jvm_types.specs.{Members.{is_private, is_static, is_final}, declared.{code.Insn.Insn, program.{FieldInfo.FieldInfo, MethodInfo.MethodInfo, Program.Program, Target.Target}}}
-use Rattle.checked_program.specs.{FrozenPlaces.{IsFrozenUse, IsGuardedStatic, IsGuardedUse, IsUse}, LockTags.TagShape, Marks.{section_fault, Applies, itself, HasMark}}
-use Rattle.checked_program.specs.{OwnedArrays.{reads_owned, AreUses}, Sections.{Section, sections, section_mode}, TaggedCode.{Tagged, IsAt}, declared.section.FieldUse.FieldUse}
-use Rattle.checked_program.{specs.declared.section.{FieldUse.TheVariants.{Guarded, Open}, Mode.TheVariants.OnClass, Spot.TheVariants.Method, Uses.Uses}, proofs.FrozenChecks.is_written_static}
-use Rattle.checked_program.proofs.{MarkChecks.{section, breaks_own, first_is, none_applies, not_beyond, none_is_called}, OwnedChecks.{no_elements, no_owners, none_are_read}}
-use Rattle.checked_program.proofs.TriedPrograms.{method, op, names, program, tags_of}
+use Rattle.std.proofs.{Common.{◌≡◌, inl, inr, ℕ, zero, suc, pos, true, false, [], ◌∷◌, Some, None, refl, sym, subst, arith, codes, slice_get}, lemmas.Bool.{false≢true, true≢false}}
+use Rattle.jvm_types.specs.{Members.{is_private, is_static, is_final}, declared.{program.{FieldInfo.FieldInfo, MethodInfo.MethodInfo, Program.Program}}}
+use Rattle.checked_program.specs.{FrozenPlaces.{IsFrozenUse, IsGuardedStatic, IsGuardedUse, IsUse}, Marks.{HasMark}}
+use Rattle.checked_program.specs.{OwnedArrays.{AreUses}, Sections.{sections, section_mode}, declared.section.{FieldUse.{FieldUse, TheVariants.{Guarded, Open}}, Uses.Uses}}
+use Rattle.checked_program.{specs.declared.section.{Mode.TheVariants.OnClass}, proofs.{FrozenChecks.is_written_static, OwnedChecks.{no_elements, no_owners, none_are_read}}}
+use Rattle.checked_program.proofs.{MarkChecks.{section, breaks_own, first_is, none_applies, not_beyond, none_is_called}, TriedPrograms.{method, op, names, program, tags_of}}
 use Rattle.jvm_types.specs.declared.code.Op.TheVariants as ops
 use Rattle.jvm_types.specs.declared.program.Kind.TheVariants as kinds
 use Rattle.jvm_types.specs.declared.program.Target.TheVariants as targets

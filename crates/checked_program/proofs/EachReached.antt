@@ -1,5 +1,5 @@
 -- A test that each reached instruction of a method passes, for programs that are written out, by computing.
-use Rattle.std.proofs.{Common.{◌≡◌, ℕ, zero, suc, Bool, true, false, List, [], ◌∷◌, Option, Some, None, subst, refl, ◌&&◌, slice_get}, lemmas.Bool.and_parts}
+use Rattle.std.proofs.{Common.{◌≡◌, ℕ, zero, suc, Bool, true, List, ◌∷◌, Option, Some, None, subst, ◌&&◌, slice_get}, lemmas.Bool.and_parts}
 use Rattle.jvm_types.specs.declared.{code.Insn.Insn, program.{MethodInfo.MethodInfo, Program.Program, Target.Target}}
 use Rattle.checked_program.specs.{LockTags.TagShape, TaggedCode.{Tagged, IsAt}}
 
@@ -17,7 +17,6 @@ all_reached q insns targets frames = true
 
 pub by_number : (q : ℕ → Insn → Target → TagShape → Bool) (insns : List Insn) (targets : List Target) (frames : List (Option TagShape)) → all_reached q insns targets frames ≡ true
     → (i : ℕ) (a : Insn) (b : Target) (g : TagShape) → slice_get insns i ≡ Some a → slice_get targets i ≡ Some b → slice_get frames i ≡ Some (Some g) → q i a b g ≡ true
-by_number q (insn ∷ insns) (target ∷ targets) (None ∷ frames) all zero a b g e h k = cc
 by_number q (insn ∷ insns) (target ∷ targets) (Some f ∷ frames) all zero a b g e h k =
     let x : insn ≡ a = cc in let y : target ≡ b = cc in let z : f ≡ g = cc in
     let t : q 0 insn target f ≡ true = (and_parts (q 0 insn target f) (all_reached (λ i. q (suc i)) insns targets frames) all).0 in
@@ -25,9 +24,7 @@ by_number q (insn ∷ insns) (target ∷ targets) (Some f ∷ frames) all zero a
 by_number q (insn ∷ insns) (target ∷ targets) (None ∷ frames) all (suc i) a b g e h k = by_number (λ i. q (suc i)) insns targets frames all i a b g e h k
 by_number q (insn ∷ insns) (target ∷ targets) (Some f ∷ frames) all (suc i) a b g e h k =
     by_number (λ i. q (suc i)) insns targets frames (and_parts (q 0 insn target f) (all_reached (λ i. q (suc i)) insns targets frames) all).1 i a b g e h k
-by_number q [] targets frames all i a b g e h k = cc
-by_number q (insn ∷ insns) [] frames all i a b g e h k = cc
-by_number q (insn ∷ insns) (target ∷ targets) [] all i a b g e h k = cc
+by_number q insns targets frames all i a b g e h k = cc
 
 abbrev pub all_of : NumberedTest → Option MethodInfo → Option (List (Option TagShape)) → Bool
 all_of q (Some m) (Some frames) = all_reached (λ i. q i m) m.code m.targets frames

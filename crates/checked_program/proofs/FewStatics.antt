@@ -1,5 +1,5 @@
 -- A program has few static fields.
-use Rattle.std.proofs.Common.{ℕ, ◌≤◌, Bool, true, false, cond, ◌&&◌, List, [], ◌∷◌, arith, nat_lt}
+use Rattle.std.proofs.Common.{ℕ, ◌≤◌, Bool, true, cond, ◌&&◌, List, [], ◌∷◌, arith, nat_lt}
 use Rattle.jvm_types.specs.{Members.is_static, ProgramInvariant.{IsProgram, statics_among}, declared.{limits.TheConstants.MOST_HEAP, program.{FieldInfo.FieldInfo, Program.Program}}}
 use Rattle.jvm_types.proofs.EachAfter.{sum_first}
 use Rattle.checked_program.specs.CodeIndex.{statics_below}
@@ -18,8 +18,7 @@ one_at_most class f = by_tests (nat_lt f.class class) (is_static f.flags)
   where
     by_tests : (a b : Bool) → cond (a && b) 1 0 ≤ cond b 1 0
     by_tests true b = omega arith
-    by_tests false true = omega arith
-    by_tests false false = omega arith
+    by_tests a b = omega arith
 
 -- no more of the classes below a number than of all
 pub statics_below_all : (class : ℕ) (fields : List FieldInfo) → statics_below class fields ≤ statics_among fields

@@ -115,26 +115,23 @@ without_more pc (x ∷ xs) (suc i) t e = ap (λ l. x ∷ l) (without_more pc xs 
 
 pub meet_more : (ts us : List Tag) (i : ℕ) (t u : Tag) → slice_get ts i ≡ Some t → slice_get us i ≡ Some u
     → take (suc i) (slice_set ts i (if same_tag t u then t else Untagged)) ++ meet_tags (drop (suc i) (slice_set ts i (if same_tag t u then t else Untagged))) (drop (suc i) us) ≡ take i ts ++ meet_tags (drop i ts) (drop i us)
-meet_more [] us i t u e f = absurd (cc)
-meet_more (x ∷ xs) [] i t u e f = absurd (cc)
 meet_more (x ∷ xs) (y ∷ ys) zero t u e f =
     let same : x ≡ t = cc in
     let other : y ≡ u = cc in
     rw (same, other) refl
 meet_more (x ∷ xs) (y ∷ ys) (suc i) t u e f = ap (λ l. x ∷ l) (meet_more xs ys i t u e f)
+meet_more ts us i t u e f = absurd (cc)
 
 pub change_more : (changed a b : Bool) → ((changed || not a) || not b) ≡ (changed || not (a && b))
-change_more true a b = refl
 change_more false true b = refl
-change_more false false b = refl
+change_more changed a b = refl
 
 pub told_more : (changed : Bool) (ts us : List Tag) (i : ℕ) (t u : Tag) → slice_get ts i ≡ Some t → slice_get us i ≡ Some u
     → ((changed || not (same_tag t (if same_tag t u then t else Untagged))) || not (same_tags (drop (suc i) (slice_set ts i (if same_tag t u then t else Untagged))) (meet_tags (drop (suc i) (slice_set ts i (if same_tag t u then t else Untagged))) (drop (suc i) us))))
     ≡ (changed || not (same_tags (drop i ts) (meet_tags (drop i ts) (drop i us))))
-told_more changed [] us i t u e f = absurd (cc)
-told_more changed (x ∷ xs) [] i t u e f = absurd (cc)
 told_more changed (x ∷ xs) (y ∷ ys) zero t u e f =
     let same : x ≡ t = cc in
     let other : y ≡ u = cc in
     rw (same, other) (change_more changed (same_tag t (if same_tag t u then t else Untagged)) (same_tags xs (meet_tags xs ys)))
 told_more changed (x ∷ xs) (y ∷ ys) (suc i) t u e f = told_more changed xs ys i t u e f
+told_more changed ts us i t u e f = absurd (cc)

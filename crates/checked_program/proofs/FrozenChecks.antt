@@ -1,10 +1,10 @@
 -- Tests of a program that is written out, from which it follows that a class is frozen and a field guarded.
-use Rattle.std.proofs.Common.{◌≡◌, ◌<◌, ℕ, zero, suc, Bool, true, false, List, [], ◌∷◌, length, Option, Some, None, refl, sym, subst, arith, ◌==◌, ◌+◌, ◌&&◌, ◌||◌, not, drop, slice_get, slice_index_or}
+use Rattle.std.proofs.Common.{◌≡◌, ◌<◌, ℕ, zero, suc, Bool, true, false, List, [], ◌∷◌, length, Option, Some, refl, sym, subst, arith, ◌==◌, ◌+◌, ◌&&◌, ◌||◌, not, drop, slice_get, slice_index_or}
 use Rattle.std.{specs.List.list_any, proofs.lemmas.Bool.{eqb-true, eq-eqb, and_parts, Decides.nat_tests}}
 use Rattle.jvm_types.specs.{CodeTable.is_init, Numbers.has_number, Verifying.edges, declared.{code.{Insn.Insn, Op.Op}, program.{MethodInfo.MethodInfo, Program.Program, Target.Target}}}
-use Rattle.checked_program.specs.FrozenPlaces.{may_take, KeepThis, KeepsThis, is_final_of, PutsOnThis, KeepsInside, IsFrozenClass, locks_this, stands_guarded, PutsGuarded, writes_class, PutsStatic}
+use Rattle.checked_program.specs.FrozenPlaces.{may_take, KeepThis, KeepsThis, is_final_of, PutsOnThis, KeepsInside, IsFrozenClass, stands_guarded, PutsGuarded, writes_class, PutsStatic}
 use Rattle.checked_program.specs.{LockTags.{TagShape, is_this, entry_tags}, TaggedCode.{Tagged, IsAt, Goes, onward, caught, row_of}, Tagging.{tags_after, catchers, tags_at_handler}}
-use Rattle.checked_program.{specs.declared.tag.Tag.{Tag, TheVariants.{Untagged, This, At}}, proofs.EachReached.{Test, all_in, in_method}}
+use Rattle.checked_program.{specs.declared.tag.Tag.{Tag, TheVariants.{Untagged, This}}, proofs.EachReached.{Test, all_in, in_method}}
 use Rattle.jvm_types.specs.declared.code.Op.TheVariants as ops
 use Rattle.jvm_types.specs.declared.program.Target.TheVariants as targets
 
@@ -15,13 +15,11 @@ unless_this t b = not (is_this t) || b
 
 pub if_this : (t : Tag) (b : Bool) → unless_this t b ≡ true → t ≡ This → b ≡ true
 if_this This b e h = e
-if_this Untagged b e h = cc
-if_this (At pc) b e h = cc
+if_this t b e h = cc
 
 pub that_is_this : (t : Tag) → is_this t ≡ true → t ≡ This
 that_is_this This e = refl
-that_is_this Untagged e = cc
-that_is_this (At pc) e = cc
+that_is_this t e = cc
 
 pub implied : (a b : Bool) → not a || b ≡ true → a ≡ true → b ≡ true
 implied true b e h = e
@@ -131,9 +129,8 @@ first_keeps (Some m) (Some (Some f ∷ frames)) = keeps_this (entry_tags m) f
 first_keeps m frames = true
 
 pub first_is_kept : (m : MethodInfo) (f : TagShape) (frames : List (Option TagShape)) → slice_get frames 0 ≡ Some (Some f) → first_keeps (Some m) (Some frames) ≡ true → KeepsThis (entry_tags m) f
-first_is_kept m f [] h e = cc
-first_is_kept m f (None ∷ frames) h e = cc
 first_is_kept m f (Some g ∷ frames) h e = let x : g ≡ f = cc in subst (λ (s : TagShape). KeepsThis (entry_tags m) s) x (keeps_frame (entry_tags m) g e)
+first_is_kept m f frames h e = cc
 
 pub entry_is_kept : (p : Program) (tags : Tagged) (mi : ℕ) → first_keeps (slice_get p.methods mi) (slice_get tags mi) ≡ true
     → (m : MethodInfo) (insn : Insn) (target : Target) (f : TagShape) → IsAt p tags mi 0 m insn target f → KeepsThis (entry_tags m) f

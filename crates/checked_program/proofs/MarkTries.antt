@@ -1,14 +1,13 @@
 -- Marks of small programs: each mark, with the rules that go before it refuted.
-use Rattle.std.proofs.{Common.{◌≡◌, ◌<◌, ℕ, Bool, true, false, List, [], ◌∷◌, Some, refl, sym, subst, arith, ◌==◌, ◌&&◌, ◌||◌, not, slice_index_or}, lemmas.Bool.{eqb-true, and_parts}}
-use Rattle.std.proofs.lemmas.Bool.Decides.{nat_tests}
+use Rattle.std.proofs.{Common.{◌≡◌, ◌<◌, ℕ, Bool, true, false, [], ◌∷◌, Some, refl, sym, subst, arith, ◌==◌, ◌&&◌, ◌||◌, not, slice_index_or}, lemmas.Bool.{eqb-true, and_parts}}
+use Rattle.std.{specs.List.AllZip, proofs.lemmas.Bool.Decides.nat_tests}
 use Rattle.jvm_types.specs.declared.{code.Insn.Insn, program.{MethodInfo.MethodInfo, Target.Target}}
-use Rattle.checked_program.specs.LockTags.{TagShape, is_this}
+use Rattle.checked_program.specs.{LockTags.{TagShape, is_this}, OwnedArrays.reads_owned, Sections.{Section, sections, section_mode}, TaggedCode.{Tagged, IsAt}, declared.section.{Mode.Mode, Spot.Spot}}
 use Rattle.checked_program.specs.Marks.{Callee, callee, called_method, receiver_tag, called_mode, section_fault, IsCalledBy, CallsItself, Applies, elsewhere, itself, called, recurring, IsOnOwn, turn, HasMark, IsMarkOf, AreMarks}
-use Rattle.checked_program.specs.{OwnedArrays.reads_owned, Sections.{Section, sections, section_mode}, TaggedCode.{Tagged, IsAt}, declared.section.FieldUse.TheVariants.{Frozen, Guarded, Open}}
-use Rattle.checked_program.specs.declared.{section.{Mode.{Mode, TheVariants.{OnThis, OffThis, OnClass}}, SectionMark.SectionMark, Spot.{Spot, TheVariants.{Method, Block}}, Uses.Uses}, tag.Tag.Tag}
-use Rattle.checked_program.{specs.declared.tag.Tag.TheVariants.{Untagged, This, At}, proofs.EachReached.{Test, all_in, in_method}}
-use Rattle.checked_program.proofs.MarkChecks.{first_is, none_applies, none_broken, not_beyond, call_is_ok, called_is_ok, none_ok, none_is_called, IsClosed, calls_to, all_from}
-use Rattle.checked_program.proofs.{OwnedChecks.{no_elements, no_owners}, TriedPrograms.{many, tags_of}, UseTries.uses_of_many}
+use Rattle.checked_program.specs.declared.section.{FieldUse.TheVariants.{Frozen, Guarded, Open}, Mode.TheVariants.{OnThis, OffThis}, SectionMark.SectionMark, Spot.TheVariants.{Method, Block}}
+use Rattle.checked_program.{specs.declared.{section.Uses.Uses, tag.Tag.{Tag, TheVariants.{Untagged, This}}}, proofs.{EachReached.{Test, all_in, in_method}, OwnedChecks.{no_elements, no_owners}}}
+use Rattle.checked_program.proofs.{MarkChecks.{first_is, none_applies, none_broken, not_beyond, call_is_ok, called_is_ok, none_ok, none_is_called, IsClosed, calls_to, all_from}, UseTries.uses_of_many}
+use Rattle.checked_program.proofs.TriedPrograms.{many, tags_of}
 
 abbrev tags : Tagged
 tags = tags_of many
@@ -91,8 +90,7 @@ is_again a = a.method == 9
 
 again_in_modes : (mode : Mode) → (all_in (calls_to is_again many mode) many tags 9 ≡ true) × (all_from 8 many tags uses (callee 9 mode) ≡ true)
 again_in_modes OnThis = (refl, refl)
-again_in_modes OffThis = (refl, refl)
-again_in_modes (OnClass class) = (refl, refl)
+again_in_modes mode = (refl, refl)
 
 again_is_closed : IsClosed many tags is_again
 again_is_closed a e = subst (λ (u : ℕ). all_in (calls_to is_again many a.mode) many tags u ≡ true) (sym (eqb-true a.method 9 e)) (again_in_modes a.mode).0
@@ -119,8 +117,7 @@ other_at_six m insn target f = not (insn.pc == 6) || not (is_this (slice_index_o
 
 is_not_this : (pc : ℕ) (t : Tag) → not (pc == 6) || not (is_this t) ≡ true → pc ≡ 6 → t ≡ This → ⊥
 is_not_this pc This e h k = grind (arith, nat_tests)
-is_not_this pc Untagged e h k = cc
-is_not_this pc (At at) e h k = cc
+is_not_this pc t e h k = cc
 
 none_before_eight : (k : ℕ) → turn k < 0 → ⊥
 none_before_eight k lt = grind arith
@@ -148,13 +145,11 @@ is_sum_method a e = eqb-true a.method 2 (and_parts (a.method == 2) (is_on a.mode
 
 sum_calls_none : (mode : Mode) → (all_in (calls_to is_sum many mode) many tags 2 ≡ true) × (all_in (calls_to none_ok many mode) many tags 2 ≡ true)
 sum_calls_none OnThis = (refl, refl)
-sum_calls_none OffThis = (refl, refl)
-sum_calls_none (OnClass class) = (refl, refl)
+sum_calls_none mode = (refl, refl)
 
 sum_keeps : (mode : Mode) → is_on mode ≡ true → all_from 8 many tags uses (callee 2 mode) ≡ true
 sum_keeps OnThis e = refl
-sum_keeps OffThis e = cc
-sum_keeps (OnClass class) e = cc
+sum_keeps mode e = cc
 
 sum_is_closed : IsClosed many tags is_sum
 sum_is_closed a e = subst (λ (u : ℕ). all_in (calls_to is_sum many a.mode) many tags u ≡ true) (sym (is_sum_method a e)) (sum_calls_none a.mode).0
@@ -189,23 +184,9 @@ all_marks : AreMarks many tags (mark 1 Method 1 ∷ mark 2 (Block 3) 0 ∷ mark 
 all_marks = record {
   uses = uses;
   are_uses = uses_of_many;
-  each = (
-    is_mark _ 1 writes,
-    (
-      is_mark _ 0 sums,
-      (
-        is_mark _ 2 allocates,
-        (
-          is_mark _ 3 enters_another,
-          (
-            is_mark _ 4 notifies,
-            (
-              is_mark _ 5 reads_static,
-              (is_mark _ 6 calls_a_printer, (is_mark _ 7 calls_again, (is_mark _ 8 locks_a_field, (is_mark _ 0 twice_is_marked, (is_mark _ 6 sums_another, tt))))),
-            ),
-          ),
-        ),
-      ),
-    ),
-  );
+  each = (is_mark _ 1 writes, (is_mark _ 0 sums, (is_mark _ 2 allocates, (is_mark _ 3 enters_another, (is_mark _ 4 notifies, (is_mark _ 5 reads_static, through_calls))))));
 }
+  where
+    through_calls : AllZip (IsMarkOf many tags uses) (section 8 Method ∷ section 10 Method ∷ section 11 (Block 6) ∷ section 12 Method ∷ section 13 Method ∷ [])
+        (mark 8 Method 6 ∷ mark 10 Method 7 ∷ mark 11 (Block 6) 8 ∷ mark 12 Method 0 ∷ mark 13 Method 6 ∷ [])
+    through_calls = (is_mark _ 6 calls_a_printer, (is_mark _ 7 calls_again, (is_mark _ 8 locks_a_field, (is_mark _ 0 twice_is_marked, (is_mark _ 6 sums_another, tt)))))

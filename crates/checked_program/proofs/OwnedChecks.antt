@@ -1,13 +1,12 @@
 -- Tests of a program that is written out, from which it follows that an array field is owned, and which elements are read.
-use Rattle.std.proofs.Common.{◌≡◌, ◌<◌, ℕ, zero, suc, Bool, true, false, List, [], ◌∷◌, length, Option, Some, None, refl, sym, ap, ◌∙◌, subst, arith, ◌↔◌, ◌==◌, ◌&&◌, ◌||◌, not, map, replicate, slice_get, slice_index_or}
-use Rattle.std.{specs.List.{list_any, AllZip}, proofs.lemmas.{Bool.{eq-eqb, eqb-true, and_parts, Decides.nat_tests}, List.length-replicate}}
+use Rattle.std.proofs.Common.{◌≡◌, ℕ, zero, suc, Bool, true, false, List, [], ◌∷◌, length, Option, Some, None, refl, ap, subst, ◌↔◌, ◌==◌, ◌&&◌, ◌||◌, not, map, replicate, slice_get, slice_index_or}
+use Rattle.std.{specs.List.{list_any, AllZip}, proofs.lemmas.{Bool.{eq-eqb, and_parts, false≢true, not-true}, List.length-replicate}}
 use Rattle.jvm_types.specs.{Numbers.has_number, Verifying.edges, declared.{class_numbers.TheConstants.INT_ARRAY_CLASS, code.{Insn.Insn, Op.Op}, program.{FieldInfo.FieldInfo, Kind.Kind}}}
 use Rattle.jvm_types.specs.declared.program.{MethodInfo.MethodInfo, Program.Program, Target.Target}
-use Rattle.checked_program.specs.{Colours.{ColourShape, entry_colours, colours_after, colours_at_handler, is_coloured, IsColouring}, FrozenPlaces.{stands_guarded, AreFieldUses}}
-use Rattle.checked_program.specs.LockTags.{TagShape, is_this}
-use Rattle.checked_program.specs.OwnedArrays.{GetsOnThis, is_branched_to, StoresNew, PutsNew, may_take_array, TakesArrayWell, StoresGuarded, UsesArrayWell, IsOwnedArrayField, IsOwnedAt, ReadsOwned, reads_owned, AreUses}
-use Rattle.checked_program.specs.{TaggedCode.{Tagged, IsAt, row_of}, Tagging.catchers, declared.{section.{FieldUse.FieldUse, Uses.Uses}, tag.Tag.TheVariants.{Untagged, This}}}
-use Rattle.checked_program.proofs.{EachReached.{Test, NumberedTest, all_in, in_method, all_numbered, in_numbered}, FrozenChecks.{implied, that_is_this, below, by_place, all_methods, of_program}}
+use Rattle.checked_program.specs.{Colours.{ColourShape, entry_colours, colours_after, colours_at_handler, is_coloured, IsColouring}, FrozenPlaces.{stands_guarded, AreFieldUses}, Tagging.catchers}
+use Rattle.checked_program.specs.{LockTags.{TagShape, is_this}, TaggedCode.{Tagged, IsAt, row_of}, declared.{section.{FieldUse.FieldUse, Uses.Uses}, tag.Tag.TheVariants.{Untagged}}}
+use Rattle.checked_program.specs.OwnedArrays.{GetsOnThis, is_branched_to, StoresNew, PutsNew, may_take_array, StoresGuarded, UsesArrayWell, IsOwnedArrayField, ReadsOwned, reads_owned, AreUses}
+use Rattle.checked_program.proofs.{EachReached.{NumberedTest, all_in, in_method, all_numbered, in_numbered}, FrozenChecks.{implied, that_is_this, below, by_place, all_methods, of_program}}
 use Rattle.jvm_types.specs.declared.code.Op.TheVariants as ops
 use Rattle.jvm_types.specs.declared.program.Kind.TheVariants as kinds
 use Rattle.jvm_types.specs.declared.program.Target.TheVariants as targets
@@ -19,10 +18,7 @@ is_iaload ops.Iaload = true
 is_iaload op = false
 
 pub no_iaload : (op : Op) → not (is_iaload op) ≡ true → op ≡ ops.Iaload → ⊥
-no_iaload op e h = by_false (subst (λ (o : Op). not (is_iaload o) ≡ true) h e)
-  where
-    by_false : false ≡ true → ⊥
-    by_false k = cc
+no_iaload op e h = false≢true (subst (λ (o : Op). not (is_iaload o) ≡ true) h e)
 
 abbrev pub reads_none : Program → Tagged → Bool
 reads_none p tags = all_methods (λ mi m. all_in (λ n insn target f. not (is_iaload insn.op)) p tags mi) 0 p.methods
@@ -36,15 +32,8 @@ no_elements_long [] = tt
 no_elements_long (m ∷ ms) = (length-replicate (length m.code) false, no_elements_long ms)
 
 none_set : (n i : ℕ) → slice_index_or (replicate n false) i false ≡ true → ⊥
-none_set zero i e = by_false e
-  where
-    by_false : false ≡ true → ⊥
-    by_false h = cc
-none_set (suc n) zero e = by_false e
-  where
-    by_false : false ≡ true → ⊥
-    by_false h = cc
 none_set (suc n) (suc i) e = none_set n i e
+none_set n i e = false≢true e
 
 pub none_is_set : (ms : List MethodInfo) (mi i : ℕ) → slice_index_or (slice_index_or (map (λ (m : MethodInfo). replicate (length m.code) false) ms) mi []) i false ≡ true → ⊥
 none_is_set [] mi i e = none_set 0 i e
@@ -67,10 +56,7 @@ is_array field = by_kind field.kind
     by_kind kind = false
 
 no_array : (field : FieldInfo) → not (is_array field) ≡ true → field.kind ≡ kinds.Ref INT_ARRAY_CLASS → ⊥
-no_array field e h = by_false (subst (λ (k : Kind). not (is_array (record field { kind = k })) ≡ true) h e)
-  where
-    by_false : false ≡ true → ⊥
-    by_false k = cc
+no_array field e h = false≢true (subst (λ (k : Kind). not (is_array (record field { kind = k })) ≡ true) h e)
 
 abbrev pub all_fields : (FieldInfo → Bool) → List FieldInfo → Bool
 all_fields q [] = true
@@ -127,13 +113,9 @@ new_is_stored : (m : MethodInfo) (i pc : ℕ) → stores_new m i pc ≡ true →
 new_is_stored m zero pc e = absurd (cc)
 new_is_stored m (suc i) pc e = by_insn (slice_get m.code i) refl (and_parts (is_newarray (slice_get m.code i)) (not (is_branched_to m pc)) e)
   where
-    is_not : (b : Bool) → not b ≡ true → b ≡ false
-    is_not true h = cc
-    is_not false h = refl
-
     by_insn : (o : Option Insn) → slice_get m.code i ≡ o → (is_newarray o ≡ true) × (not (is_branched_to m pc) ≡ true) → StoresNew m (suc i) pc
     by_insn None k h = absurd (let x : false ≡ true = h.0 in cc)
-    by_insn (Some insn) k h = record { before = i; follows = refl; insn = insn; is = k; makes = made insn.op h.0; only = is_not (is_branched_to m pc) h.1 }
+    by_insn (Some insn) k h = record { before = i; follows = refl; insn = insn; is = k; makes = made insn.op h.0; only = not-true (is_branched_to m pc) h.1 }
       where
         made : (op : Op) → is_newarray (Some (record insn { op = op })) ≡ true → op ≡ ops.Newarray
         made ops.Newarray h = refl
@@ -169,11 +151,7 @@ bits_are_same : (bs cs : List Bool) → same_bits bs cs ≡ true → bs ≡ cs
 bits_are_same [] [] e = refl
 bits_are_same (true ∷ bs) (true ∷ cs) e = ap (λ l. true ∷ l) (bits_are_same bs cs e)
 bits_are_same (false ∷ bs) (false ∷ cs) e = ap (λ l. false ∷ l) (bits_are_same bs cs e)
-bits_are_same (true ∷ bs) (false ∷ cs) e = absurd (cc)
-bits_are_same (false ∷ bs) (true ∷ cs) e = absurd (cc)
-bits_are_same [] (c ∷ cs) e = absurd (cc)
-bits_are_same (true ∷ bs) [] e = absurd (cc)
-bits_are_same (false ∷ bs) [] e = absurd (cc)
+bits_are_same bs cs e = absurd (cc)
 
 abbrev pub same_colours : ColourShape → ColourShape → Bool
 same_colours f g = same_bits f.stack g.stack && same_bits f.locals g.locals
@@ -308,17 +286,7 @@ flagged_parts (Some f ∷ frames) (insn ∷ insns) (target ∷ targets) (flag �
 flagged_parts (None ∷ frames) (insn ∷ insns) (target ∷ targets) (flag ∷ flags) zero e h = absurd (no_flag flag (and_parts (not flag) (only_reached frames insns targets flags) e).0 h)
 flagged_parts (None ∷ frames) (insn ∷ insns) (target ∷ targets) (flag ∷ flags) (suc i) e h =
     let r = flagged_parts frames insns targets flags i (and_parts (not flag) (only_reached frames insns targets flags) e).1 h in record { insn = r.insn; target = r.target; f = r.f; framed = r.framed; coded = r.coded; named = r.named }
-flagged_parts [] insns targets (flag ∷ flags) i e h = absurd (none_beyond (flag ∷ flags) i e h)
-flagged_parts (o ∷ frames) [] targets (flag ∷ flags) i e h = absurd (none_beyond (flag ∷ flags) i (unread o e) h)
-  where
-    unread : (o : Option TagShape) → only_reached (o ∷ frames) [] targets (flag ∷ flags) ≡ true → only_reached [] [] [] (flag ∷ flags) ≡ true
-    unread None e = e
-    unread (Some f) e = e
-flagged_parts (o ∷ frames) (insn ∷ insns) [] (flag ∷ flags) i e h = absurd (none_beyond (flag ∷ flags) i (unread o e) h)
-  where
-    unread : (o : Option TagShape) → only_reached (o ∷ frames) (insn ∷ insns) [] (flag ∷ flags) ≡ true → only_reached [] [] [] (flag ∷ flags) ≡ true
-    unread None e = e
-    unread (Some f) e = e
+flagged_parts frames insns targets (flag ∷ flags) i e h = absurd (none_beyond (flag ∷ flags) i e h)
 
 abbrev pub flags_fit : List MethodInfo → Tagged → List (List Bool) → Bool
 flags_fit ms tags [] = true
@@ -330,14 +298,7 @@ that_is_at : (ms : List MethodInfo) (tags : Tagged) (rows : List (List Bool)) (m
 that_is_at ms tags [] mi i e h = absurd (none_set 0 i h)
 that_is_at (m ∷ ms) (frames ∷ tags) (flags ∷ rows) zero i e h = (m, frames, refl, refl, flagged_parts frames m.code m.targets flags i (and_parts (only_reached frames m.code m.targets flags) (flags_fit ms tags rows) e).0 h)
 that_is_at (m ∷ ms) (frames ∷ tags) (flags ∷ rows) (suc mi) i e h = that_is_at ms tags rows mi i (and_parts (only_reached frames m.code m.targets flags) (flags_fit ms tags rows) e).1 h
-that_is_at [] tags (flags ∷ rows) mi i e h = absurd (by_false e)
-  where
-    by_false : false ≡ true → ⊥
-    by_false x = cc
-that_is_at (m ∷ ms) [] (flags ∷ rows) mi i e h = absurd (by_false e)
-  where
-    by_false : false ≡ true → ⊥
-    by_false x = cc
+that_is_at ms tags (flags ∷ rows) mi i e h = absurd (false≢true e)
 
 abbrev pub reads_well_at : (fi : ℕ) → Program → Uses → (mi : ℕ) → MethodInfo → NumberedTest
 reads_well_at fi p uses mi m i n insn target f = reads_well insn.op (reads_owned uses mi i) (is_coloured (straight_colours fi p m i).stack 1)

@@ -17,8 +17,7 @@ by_number : (q : ℕ → Bool) (insns : List Insn) (targets : List Target) → a
 by_number q (insn ∷ insns) (target ∷ targets) all zero a b e h = let x : insn ≡ a = cc in let y : target ≡ b = cc in
     subst (λ (k : Insn). passes q (called_method k.op b) ≡ true) x (subst (λ (t : Target). passes q (called_method insn.op t) ≡ true) y (and_parts (passes q (called_method insn.op target)) (all_calls q insns targets) all).0)
 by_number q (insn ∷ insns) (target ∷ targets) all (suc i) a b e h = by_number q insns targets (and_parts (passes q (called_method insn.op target)) (all_calls q insns targets) all).1 i a b e h
-by_number q [] targets all i a b e h = cc
-by_number q (insn ∷ insns) [] all i a b e h = cc
+by_number q insns targets all i a b e h = cc
 
 abbrev calls_of : (ℕ → Bool) → Option MethodInfo → Bool
 calls_of q None = true

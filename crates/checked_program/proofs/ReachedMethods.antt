@@ -1,6 +1,7 @@
 -- The methods that a method reaches through calls, and how many instructions these have.
 use Rattle.std.proofs.Common.{◌≡◌, ℕ, zero, suc, ◌+◌, ◌<◌, ◌≤◌, ◌≢◌, Bool, true, false, List, [], ◌∷◌, length, refl, sym, ap, subst, ◌∙◌, arith, ⊎_elim, get_or-set_same, get_or-set_other, ◌==◌, Contains, replicate, slice_get, slice_index_or}
-use Rattle.std.{specs.List.{AllByRecursion, IsDistinct, sum_by}, proofs.lemmas.{Bool.{cases_eq, Decides.nat_tests}, List.{length-replicate, length-set, get_or-replicate, Sums.sum_by-cons}}}
+use Rattle.std.specs.List.{AllByRecursion, IsDistinct, sum_by}
+use Rattle.std.proofs.lemmas.{Bool.{cases_eq, false≢true, Decides.nat_tests}, List.{length-replicate, length-set, get_or-replicate, Sums.sum_by-cons}}
 use Rattle.jvm_types.specs.{ProgramInvariant.IsProgram, declared.program.{MethodInfo.MethodInfo, Program.Program}}
 use Rattle.graph_closure.{specs.{LeastSet.IsGraph, Walks.{Walks, Leads, AreLeading}}, proofs.WalkLaws.leads_more}
 use Rattle.checked_program.specs.{MethodCalls.{method_calls, only_one, size_found, size_if, AreReached}, Reach.{HasCall, HasCalls, IsReach, size_of}, declared.call_edges.Graph.Graph}
@@ -86,7 +87,7 @@ found_all found (suc k) u l w = ⊎_elim (λ (q : u ≡ k). here (slice_index_or
   where
     here : (t : Bool) → t ≡ true → u ≡ k → Contains (put_if t k (found_before found k)) u
     here true e q = (0, omega arith, sym q)
-    here false e q = absurd (let bad : false ≡ true = e in cc)
+    here false e q = absurd (false≢true e)
 
     there : (t : Bool) → Contains (found_before found k) u → Contains (put_if t k (found_before found k)) u
     there true c = behind k u (found_before found k) c
@@ -97,38 +98,33 @@ differs u y = grind (arith, nat_tests)
 
 all_differ : (found : List Bool) (k u : ℕ) → k ≤ u → AllByRecursion (λ y. (u == y) ≡ false) (found_before found k)
 all_differ found zero u l = tt
-all_differ found (suc k) u l = by_flag (slice_index_or found k false) (all_differ found k u (omega (arith, l)))
-  where
-    by_flag : (t : Bool) → AllByRecursion (λ y. (u == y) ≡ false) (found_before found k) → AllByRecursion (λ y. (u == y) ≡ false) (put_if t k (found_before found k))
-    by_flag true rest = (differs u k (omega (arith, l)), rest)
-    by_flag false rest = rest
+all_differ found (suc k) u l =
+    let rest : AllByRecursion (λ y. (u == y) ≡ false) (found_before found k) = all_differ found k u (omega (arith, l)) in
+    elim (slice_index_or found k false) as (λ t. AllByRecursion (λ y. (u == y) ≡ false) (put_if t k (found_before found k))) [ true ↦ (differs u k (omega (arith, l)), rest) | false ↦ rest ]
 
 found_distinct : (found : List Bool) (k : ℕ) → IsDistinct (λ u v. u == v) (found_before found k)
 unfolding IsDistinct
 found_distinct found zero = tt
-found_distinct found (suc k) = by_flag (slice_index_or found k false) (found_distinct found k)
-  where
-    by_flag : (t : Bool) → IsDistinct (λ u v. u == v) (found_before found k) → IsDistinct (λ u v. u == v) (put_if t k (found_before found k))
-    by_flag true rest = (all_differ found k k (omega arith), rest)
-    by_flag false rest = rest
+found_distinct found (suc k) =
+    let rest = found_distinct found k in
+    elim (slice_index_or found k false) as (λ t. IsDistinct (λ u v. u == v) (put_if t k (found_before found k))) [ true ↦ (all_differ found k k (omega arith), rest) | false ↦ rest ]
 
 -- ---- their instructions
 
 found_size : (ms : List MethodInfo) (found : List Bool) (k : ℕ) → size_found ms found k ≡ sum_by (λ u. size_of (slice_get ms u)) (found_before found k)
 found_size ms found zero = refl
-found_size ms found (suc k) = by_flag (slice_index_or found k false) (found_size ms found k)
-  where
-    by_flag : (t : Bool) → size_found ms found k ≡ sum_by (λ u. size_of (slice_get ms u)) (found_before found k) → size_found ms found k + size_if t (slice_get ms k) ≡ sum_by (λ u. size_of (slice_get ms u)) (put_if t k (found_before found k))
-    by_flag true h = omega (arith, h, sum_by-cons (λ u. size_of (slice_get ms u)) k (found_before found k))
-    by_flag false h = omega (arith, h)
+found_size ms found (suc k) =
+    elim (slice_index_or found k false) as (λ t. size_found ms found k + size_if t (slice_get ms k) ≡ sum_by (λ u. size_of (slice_get ms u)) (put_if t k (found_before found k))) [
+      | true ↦ omega (arith, found_size ms found k, sum_by-cons (λ u. size_of (slice_get ms u)) k (found_before found k))
+      | false ↦ omega (arith, found_size ms found k)
+    ]
 
 found_few : (ms : List MethodInfo) (found : List Bool) (k : ℕ) → size_found ms found k ≤ size_before ms k
 found_few ms found zero = omega arith
-found_few ms found (suc k) = by_flag (slice_index_or found k false) (found_few ms found k)
-  where
-    by_flag : (t : Bool) → size_found ms found k ≤ size_before ms k → size_found ms found k + size_if t (slice_get ms k) ≤ size_before ms k + size_of (slice_get ms k)
-    by_flag true h = omega (arith, h)
-    by_flag false h = omega (arith, h)
+found_few ms found (suc k) = elim (slice_index_or found k false) as (λ t. size_found ms found k + size_if t (slice_get ms k) ≤ size_before ms k + size_of (slice_get ms k)) [
+  | true ↦ omega (arith, found_few ms found k)
+  | false ↦ omega (arith, found_few ms found k)
+]
 
 pub found_fits : (ms : List MethodInfo) (found : List Bool) (k n : ℕ) → sum_by (λ m. length m.code) ms ≤ n → size_found ms found k ≤ n
 found_fits ms found k n h = omega (arith, found_few ms found k, size_before-le ms k, h)

@@ -150,11 +150,8 @@ locks_field = method 0 (codes "locks_field") [] None 2 2
 
 -- two calls of the block, on this
 abbrev pub twice : MethodInfo
-twice = method 32 (codes "twice") [] (some_int) 2 1
+twice = method 32 (codes "twice") [] (Some kinds.Int) 2 1
     (op 0 1 (ops.Aload 0) ∷ names 1 4 (ops.Invokevirtual 30) (targets.Method 2) ∷ op 4 5 (ops.Aload 0) ∷ names 5 8 (ops.Invokevirtual 30) (targets.Method 2) ∷ op 8 9 ops.Iadd ∷ op 9 10 ops.Ireturn ∷ []) []
-  where
-    some_int : Option Kind
-    some_int = Some kinds.Int
 
 -- and one of the block of another object
 abbrev pub sums_other : MethodInfo
@@ -173,10 +170,7 @@ leaking_constructor = method 0 (codes "<init>") [] None 2 1
     ∷ op 8 9 (ops.Aload 0) ∷ op 9 10 (ops.Iconst (pos 1)) ∷ names 10 13 (ops.Putfield 22) (targets.Field 0) ∷ op 13 14 ops.Return ∷ []) []
 
 abbrev pub get : MethodInfo
-get = method 32 (codes "get") [] (an_int) 1 1 (op 0 1 (ops.Aload 0) ∷ names 1 4 (ops.Getfield 22) (targets.Field 0) ∷ op 4 5 ops.Ireturn ∷ []) []
-  where
-    an_int : Option Kind
-    an_int = Some kinds.Int
+get = method 32 (codes "get") [] (Some kinds.Int) 1 1 (op 0 1 (ops.Aload 0) ∷ names 1 4 (ops.Getfield 22) (targets.Field 0) ∷ op 4 5 ops.Ireturn ∷ []) []
 
 abbrev pub one_field : List FieldInfo
 one_field = private_int 0 ∷ static_object ∷ []

@@ -1,6 +1,5 @@
 -- How the fields of small programs may be read: frozen, guarded, or neither.
-use Rattle.std.proofs.Common.{◌≡◌, ◌⊎◌, inl, inr, ℕ, zero, suc, true, false, List, [], ◌∷◌, Some, refl, sym, subst, arith, slice_get}
-use Rattle.std.proofs.lemmas.Bool.{false≢true, true≢false}
+use Rattle.std.proofs.{Common.{◌≡◌, inl, inr, ℕ, zero, suc, true, false, List, [], ◌∷◌, Some, refl, sym, subst, arith, slice_get}, lemmas.Bool.{false≢true, true≢false}}
 use Rattle.jvm_types.specs.{Members.{is_private, is_static, is_final}, declared.program.{FieldInfo.FieldInfo, Program.Program}}
 use Rattle.checked_program.specs.{FrozenPlaces.{IsFrozenClass, IsFrozenField, IsFrozenUse, IsGuardedField, IsGuardedUse, IsUse}, OwnedArrays.AreUses, declared.section.FieldUse.FieldUse}
 use Rattle.checked_program.{specs.declared.{section.FieldUse.TheVariants.{Frozen, Guarded, Open}, tag.Tag.TheVariants.{Untagged, This}}, proofs.FrozenChecks.{is_frozen, is_written_guarded}}

@@ -5,16 +5,19 @@ ghost use Rattle.checked_program.specs.CheckedLaws.{CheckedIsSound, FramesHavePl
 ghost use Rattle.checked_program.specs.CheckedLaws.{CheckedPlacesHold, ReachIsOne};
 
 /// Each method has its typing, under which each instruction is sound.
+#[tactic(auto, using(crate::proofs::CheckedPlaces::checked_sound))]
 pub fn checked_is_sound()
     ensures { CheckedIsSound }
 {}
 
 /// Receiver and arguments of each method fit in its locals.
+#[tactic(auto, using(crate::proofs::CheckedPlaces::called_fit_all))]
 pub fn called_fit()
     ensures { CalledFit }
 {}
 
 /// Where there is a frame there is an instruction with its target.
+#[tactic(auto, using(crate::proofs::CheckedPlaces::have_places))]
 pub fn frames_have_places()
     ensures { FramesHavePlaces }
 {}
@@ -31,6 +34,7 @@ pub fn calls_suit()
 {}
 
 /// The row that catches an exception is one of those up to the first that catches all (JVMS 2.10).
+#[tactic(auto, using(crate::proofs::CheckedPlaces::catchers_among))]
 pub fn catchers_are_among()
     ensures { CatchersAreAmong }
 {}
