@@ -1,15 +1,14 @@
 -- The held lists of a method that has a tagging: each edge brings the one at its target, and where every monitor is entered
 -- on the object of a section, all held tags are of that object.
-use Rattle.std.proofs.Common.{◌≡◌, ⊎_elim, ℕ, zero, suc, ◌+◌, ◌<◌, Bool, true, false, List, [], ◌∷◌, length, drop, Option, Some, None, refl, sym, ap, ◌∙◌, subst, arith, ◌==◌, ◌||◌, slice_get, slice_index_or}
+use Rattle.std.proofs.Common.{◌≡◌, ⊎_elim, ℕ, zero, suc, ◌+◌, ◌<◌, true, false, List, [], ◌∷◌, length, drop, Option, Some, refl, sym, ap, ◌∙◌, subst, arith, ◌==◌, slice_get, slice_index_or}
 use Rattle.std.{specs.List.{AllByRecursion, list_any}, proofs.lemmas.Bool.{eq-eqb, eqb-true, or_cases}}
 use Rattle.jvm_types.specs.{Numbers.has_number, Verifying.edges, declared.{code.{Insn.Insn, Op.Op}, op_row.OpRow.OpRow, program.{MethodInfo.MethodInfo, Program.Program, Row.Row, Target.Target}}}
 use Rattle.jvm_types.{specs.declared.refusal.SRule.SRule, proofs.EachAfter.all_weaker}
-use Rattle.checked_program.specs.{LockTags.{TagShape, IsShapeBelow, entry_tags}, Marks.is_own_object, TaggedCode.{Goes, onward, caught, row_of}}
-use Rattle.checked_program.specs.{Tagging.{tags_after, tags_by_op, tags_at_handler, catchers, acts_at, tag_meeting, tag_plan, HasTagging}, Visits.{Act, Break, Bring, PlanNode, plan_nodes}}
-use Rattle.checked_program.specs.declared.{section.Mode.Mode, tag.Tag.{Tag, TheVariants.Untagged}}
-use Rattle.laws_sections.proofs.{TagActs.{to_handler, AreKept, acts_kept, all_acts}, TagOrder.tag_order}
+use Rattle.checked_program.specs.{LockTags.{TagShape, IsShapeBelow, entry_tags}, Marks.is_own_object, TaggedCode.{Goes, onward, caught, row_of}, Visits.{Act, Break, Bring, PlanNode, plan_nodes}}
+use Rattle.checked_program.specs.{Tagging.{tags_after, tags_by_op, tags_at_handler, catchers, acts_at, tag_meeting, tag_plan, HasTagging}, declared.{section.Mode.Mode, tag.Tag.Tag}}
+use Rattle.checked_program.specs.declared.tag.Tag.TheVariants.{Untagged}
+use Rattle.laws_sections.proofs.{TagActs.{to_handler, AreKept, acts_kept, all_acts}, TagOrder.tag_order, VisitedNodes.{IsFirstOf, IsBelow, LandsOn, IsActFine}}
 use Rattle.laws_sections.proofs.VisitPaths.{AreLive, HasFrame, ActLeads, ActsLead, IsSettled, settled, all_lead, first_live, starts_below, final_frame}
-use Rattle.laws_sections.proofs.VisitedNodes.{IsFirstOf, IsBelow, LandsOn, IsActFine}
 use Rattle.jvm_types.specs.declared.code.Op.TheVariants as ops
 
 -- ---- the first instruction of a pc
@@ -111,7 +110,8 @@ module _ (p : Program) (m : MethodInfo) where
     caught_at : (f : TagShape) (handlers : List Row) (pc : ℕ) → AllByRecursion (λ handler. IsTagFine ends.last (to_handler f handler)) handlers → list_any (λ handler. handler.handler == pc) handlers ≡ true → TagLands ends.last (tags_at_handler f) pc
     caught_at f [] pc all e = absurd (let bad : false ≡ true = e in cc)
     caught_at f (handler ∷ handlers) pc all e = ⊎_elim (λ (same : (handler.handler == pc) ≡ true). subst (TagLands ends.last (tags_at_handler f)) (eqb-true handler.handler pc same) all.0.0)
-        (λ (e : list_any (λ (handler : Row). handler.handler == pc) handlers ≡ true). caught_at f handlers pc all.1 e) (or_cases (handler.handler == pc) (list_any (λ (handler : Row). handler.handler == pc) handlers) e)
+        (λ (e : list_any (λ (handler : Row). handler.handler == pc) handlers ≡ true). caught_at f handlers pc all.1 e)
+        (or_cases (handler.handler == pc) (list_any (λ (handler : Row). handler.handler == pc) handlers) e)
 
     goes_lands : (insn other : Insn) (target : Target) (f h : TagShape) → AreKept (IsTagFine ends.last) m insn (row_of p m insn target) f → Goes p m insn target f other h → TagLands ends.last h other.pc
     goes_lands insn other target f h sound (onward o e) = lands_at (tags_after insn (row_of p m insn target) f) (edges insn) o.pc sound.onward e

@@ -1,14 +1,12 @@
 -- What a marked section reads: an instruction that breaks no rule reads frozen places and those of the section's object or class.
 use Rattle.std.proofs.Common.{◌≡◌, ℕ, zero, suc, ◌≢◌, Bool, true, false, List, [], ◌∷◌, Option, Some, refl, sym, ap, ◌∙◌, subst, arith, ⊎_elim, inl, inr, ◌⊎◌, slice_get, slice_index, slice_index_or}
 use Rattle.std.proofs.lemmas.Bool.{cases_eq, eqb-true}
-use Rattle.jvm_types.specs.{ProgramInvariant.{IsTargetOf, site_in}, declared.{code.{Insn.Insn, Op.Op}, program.{FieldInfo.FieldInfo, MethodInfo.MethodInfo}}}
-use Rattle.jvm_types.specs.declared.program.{Program.Program, Target.Target}
-use Rattle.checked_program.specs.{FrozenPlaces.{IsUse, AreFieldUses, IsFrozenField, IsFrozenStatic, IsFrozenUse, IsGuardedField, IsGuardedUse}, LockTags.TagShape}
+use Rattle.jvm_types.specs.{ProgramInvariant.{IsTargetOf, site_in}, declared.{code.{Insn.Insn, Op.Op}, program.{FieldInfo.FieldInfo, MethodInfo.MethodInfo, Program.Program, Target.Target}}}
+use Rattle.checked_program.specs.{FrozenPlaces.{IsUse, AreFieldUses, IsFrozenField, IsFrozenStatic, IsFrozenUse, IsGuardedField, IsGuardedUse}, LockTags.TagShape, TaggedCode.{Tagged, IsAt}}
 use Rattle.checked_program.specs.Marks.{Callee, callee, Calls, CallsThrough, IsCalledBy, HasMark, section_fault, call_fault, enter_fault, use_fault, element_fault, args_of, is_locking, is_class_locking, is_own_object, is_own_class, class_of_field, class_of_method, BreaksAt, itself, called}
-use Rattle.checked_program.specs.{OwnedArrays.{IsOwnedAt, reads_owned, AreUses}, SectionLaws.{Part, IsSectionPart, AreParts, HasThis, IsOwnStatic, ReadsOnly, ReadLaw}}
-use Rattle.checked_program.specs.{Sections.{Section, section_mode, IsOwn}, TaggedCode.{Tagged, IsAt}, declared.section.{FieldUse.{FieldUse, TheVariants.{Frozen, Guarded, Open}}, Mode.Mode}}
-use Rattle.checked_program.{specs.declared.{section.{Mode.TheVariants.{OnThis, OnClass}, Uses.Uses}, tag.Tag.{Tag, TheVariants.{Untagged, This}}}, proofs.FrozenChecks.that_is_this}
-use Rattle.checked_program.proofs.NamedFields.{HasSort, sort_read, sort_read_static, target_named}
+use Rattle.checked_program.specs.{OwnedArrays.{IsOwnedAt, reads_owned, AreUses}, SectionLaws.{Part, IsSectionPart, AreParts, HasThis, IsOwnStatic, ReadsOnly, ReadLaw}, declared.section.Mode.Mode}
+use Rattle.checked_program.specs.{Sections.{Section, section_mode, IsOwn}, declared.section.{FieldUse.{FieldUse, TheVariants.{Frozen, Guarded, Open}}, Mode.TheVariants.{OnThis, OnClass}, Uses.Uses}}
+use Rattle.checked_program.{specs.declared.tag.Tag.{Tag, TheVariants.{Untagged, This}}, proofs.{FrozenChecks.that_is_this, NamedFields.{HasSort, sort_read, sort_read_static, target_named}}}
 use Rattle.jvm_types.specs.declared.code.Op.TheVariants as ops
 use Rattle.jvm_types.specs.declared.program.Target.TheVariants as targets
 

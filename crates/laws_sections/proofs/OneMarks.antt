@@ -1,5 +1,5 @@
 -- Each field has one use, each element is read or not, and each section has one mark.
-use Rattle.std.proofs.Common.{◌≡◌, ℕ, zero, suc, ◌<◌, ⊎_elim, Bool, true, false, cond, List, [], ◌∷◌, length, Some, refl, sym, ap, ◌∙◌, subst, arith, inl, inr, ◌⊎◌, ◌↔◌, ◌==◌, slice_get, slice_index_or}
+use Rattle.std.proofs.Common.{◌≡◌, ℕ, zero, suc, ◌<◌, ⊎_elim, Bool, true, false, cond, List, [], ◌∷◌, length, Some, refl, sym, ap, ◌∙◌, subst, arith, inl, inr, ◌↔◌, ◌==◌, slice_get, slice_index_or}
 use Rattle.std.{specs.List.AllZip, proofs.lemmas.{Bool.{cases_order, Decides.nat_tests}, Option.same_Some}}
 use Rattle.jvm_types.specs.{Members.is_final, declared.program.{FieldInfo.FieldInfo, MethodInfo.MethodInfo, Program.Program}}
 use Rattle.checked_program.specs.{FrozenPlaces.{IsFrozenUse, IsGuardedUse, IsUse}, Marks.{turn, HasMark, IsMarkOf}, OwnedArrays.{IsOwnedArrayField, ReadsOwned, owns_arrays, reads_owned}}

@@ -1,9 +1,8 @@
 -- The frames of a section along calls: a section begins, a method is invoked or returns, and none is called twice.
 use Rattle.std.proofs.Common.{◌≡◌, ℕ, ◌<◌, Bool, true, false, List, [], ◌∷◌, length, Some, refl, sym, ap, ◌∙◌, subst, arith, ⊎_elim, ◌↔◌, slice_get, slice_index, slice_index_or}
 use Rattle.jvm_types.specs.declared.{code.{Insn.Insn, Op.Op}, program.{MethodInfo.MethodInfo, Program.Program, Target.Target}}
-use Rattle.checked_program.specs.LockTags.{TagShape}
+use Rattle.checked_program.specs.{LockTags.TagShape, SectionLaws.{Part, IsSectionPart, AreParts, IsExit, HasNone, ApartLaw}, Sections.{Section, BeginsAt}, TaggedCode.{Tagged, IsAt, onward, row_of}}
 use Rattle.checked_program.specs.Marks.{Callee, callee, Calls, Invokes, CallsThrough, CallsItself, recurring, called_method, args_of, receiver_tag, is_own_object, mode_if, called_mode}
-use Rattle.checked_program.specs.{SectionLaws.{Part, IsSectionPart, AreParts, IsExit, HasNone, ApartLaw}, Sections.{Section, BeginsAt}, TaggedCode.{Tagged, IsAt, onward, row_of}}
 use Rattle.checked_program.specs.{Tagging.{tags_after, tags_by_op}, declared.{section.Mode.{Mode, TheVariants.{OnThis, OffThis, OnClass}}, tag.Tag.{Tag, TheVariants.{Untagged, This}}}}
 use Rattle.laws_sections.{specs.FrameLaws.{BeginLaw, IsReceiver, mode_of_call, InvokeLaw, ModeLaw, ReturnLaw, ResumeLaw}, proofs.MarkedReads.{own_object, on_receiver, part_called}}
 use Rattle.laws_sections.proofs.SectionMoves.{move_law}

@@ -1,9 +1,8 @@
 -- The frames of a section as its top one moves: own instructions along edges, invocations and returns.
 use Rattle.std.proofs.{Common.{◌≡◌, ℕ, suc, ◌<◌, ◌≤◌, List, [], ◌∷◌, length, drop, Some, refl, sym, ap, ◌∙◌, subst, arith, ⊎_elim, inl, inr, ◌⊎◌, slice_get}, lemmas.Bool.cases_lt}
 use Rattle.jvm_types.specs.declared.{code.{Insn.Insn, Op.Op}, op_row.OpRow.OpRow, program.{MethodInfo.MethodInfo, Program.Program, Target.Target}}
-use Rattle.checked_program.specs.{LockTags.TagShape, SectionLaws.{IsSectionPart, IsExit, OwnLaw, MoveLaw}, Sections.{IsDeep, StaysDeep, IsInBlock, IsOwn}}
-use Rattle.checked_program.specs.{TaggedCode.{Tagged, IsAt, Goes, onward, caught, IsReachedEdge, row_of}, Tagging.tags_by_op, declared.{section.Spot.TheVariants.{Method, Block}, tag.Tag.Tag}}
-use Rattle.checked_program.specs.declared.tag.Tag.TheVariants.{Untagged}
+use Rattle.checked_program.specs.{LockTags.TagShape, SectionLaws.{IsSectionPart, IsExit, OwnLaw, MoveLaw}, Sections.{IsDeep, StaysDeep, IsInBlock, IsOwn}, Tagging.tags_by_op, declared.tag.Tag.Tag}
+use Rattle.checked_program.specs.{TaggedCode.{Tagged, IsAt, Goes, onward, caught, IsReachedEdge, row_of}, declared.{section.Spot.TheVariants.{Method, Block}, tag.Tag.TheVariants.Untagged}}
 use Rattle.jvm_types.specs.declared.code.Op.TheVariants as ops
 
 -- ---- held lists along edges

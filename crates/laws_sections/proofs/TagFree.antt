@@ -1,5 +1,5 @@
 -- No instruction holds the tag that a `dup` there would make: every tag, wherever it is, is one whose `dup` does not hold it.
-use Rattle.std.proofs.Common.{◌≡◌, ⊎_elim, ℕ, zero, suc, ◌-◌, Bool, true, false, List, [], ◌∷◌, map, drop, length, replicate, Option, Some, None, refl, sym, ap, ◌∙◌, subst, ◌||◌, if◌then◌else◌, slice_get, slice_set, slice_index_or}
+use Rattle.std.proofs.Common.{◌≡◌, ⊎_elim, ℕ, zero, suc, ◌-◌, true, false, List, [], ◌∷◌, map, drop, length, replicate, Option, Some, None, refl, sym, ap, ◌∙◌, subst, slice_get, slice_set, slice_index_or}
 use Rattle.std.{specs.List.AllByRecursion, proofs.lemmas.Bool.{cases_Bool, cond_both, or_cases}}
 use Rattle.jvm_types.specs.{CodeTable.{row, value_of, locals_after}, Members.is_static, Verifying.IsLaidOut, declared.{code.{Insn.Insn, Op.Op}, op_row.Given.Given}}
 use Rattle.jvm_types.{specs.declared.{op_row.{Given.TheVariants.{Fresh, Taken, Local}, OpRow.OpRow}, program.MethodInfo.MethodInfo}, proofs.EachAfter.all_append}
@@ -53,7 +53,8 @@ module _ (m : MethodInfo) (frames : List (Option TagShape)) (laid : IsLaidOut m)
   entry_free : AreFree (entry_tags m)
   entry_free = record {
     stack = tt;
-    locals = cond_both (is_static m.flags) (replicate m.max_locals Untagged) (This ∷ replicate (m.max_locals - 1) Untagged) (AllByRecursion IsFree) (λ e. untagged_free m.max_locals) (λ e. (tt, untagged_free (m.max_locals - 1)));
+    locals = cond_both (is_static m.flags) (replicate m.max_locals Untagged) (This ∷ replicate (m.max_locals - 1) Untagged) (AllByRecursion IsFree)
+        (λ e. untagged_free m.max_locals) (λ e. (tt, untagged_free (m.max_locals - 1)));
     held = tt;
   }
 

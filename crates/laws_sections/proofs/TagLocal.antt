@@ -1,5 +1,5 @@
 -- The local law of tags, from that of visits. Tagging reaches only what typing reaches; so its edges lead to instructions.
-use Rattle.std.{proofs.Common.{◌≡◌, ℕ, zero, suc, Bool, true, false, List, [], ◌∷◌, Option, Some, None, refl, sym, ap, ◌∙◌, subst, ◌==◌, if◌then◌else◌, slice_get}, specs.List.AllByRecursion}
+use Rattle.std.{proofs.Common.{◌≡◌, ℕ, zero, suc, true, List, [], ◌∷◌, Option, Some, refl, sym, ap, ◌∙◌, subst, ◌==◌, slice_get}, specs.List.AllByRecursion}
 use Rattle.std.proofs.lemmas.Bool.{cond_both, or_left, or_right, eq-eqb}
 use Rattle.jvm_types.specs.{CodeGrammar.is_start, CodeTable.{row, can_throw}, Types.{TypeFrame, entry_type_frame}, Verifying.{edges, covering, frame_after, frame_at_handler, IsLaidOut}}
 use Rattle.jvm_types.{specs.declared.{code.Insn.Insn, op_row.OpRow.OpRow, program.{MethodInfo.MethodInfo, Program.Program, Row.Row, Target.Target}, refusal.SRule.SRule}, proofs.EachAfter.all_weaker}
@@ -56,12 +56,14 @@ module _ (p : Program) (m : MethodInfo) (frames : List (Option TypeFrame)) (laid
   rows_land g f [] h = tt
   rows_land g f (handler ∷ rows) h =
       let one : Lands IsTyped m.code (tags_at_handler f) handler.handler = typed_lands (frame_at_handler handler g) (tags_at_handler f) handler.handler h.0 in
-      cond_both (catches_all handler) (handler ∷ []) (handler ∷ until_all rows) (AllByRecursion (λ handler. Lands IsTyped m.code (tags_at_handler f) handler.handler)) (λ e. (one, tt)) (λ e. (one, rows_land g f rows h.1))
+      cond_both (catches_all handler) (handler ∷ []) (handler ∷ until_all rows) (AllByRecursion (λ handler. Lands IsTyped m.code (tags_at_handler f) handler.handler))
+      (λ e. (one, tt)) (λ e. (one, rows_land g f rows h.1))
 
   catchers_land : (insn : Insn) (g : TypeFrame) (f : TagShape) → AllByRecursion (λ handler. types.FrameFits m.code frames (frame_at_handler handler g) handler.handler) (covering m insn.pc)
       → AllByRecursion (λ handler. Lands IsTyped m.code (tags_at_handler f) handler.handler) (catchers m insn)
   catchers_land insn g f h =
-      cond_both (can_throw insn.op) (until_all (covering m insn.pc)) [] (AllByRecursion (λ handler. Lands IsTyped m.code (tags_at_handler f) handler.handler)) (λ e. rows_land g f (covering m insn.pc) h) (λ e. tt)
+      cond_both (can_throw insn.op) (until_all (covering m insn.pc)) [] (AllByRecursion (λ handler. Lands IsTyped m.code (tags_at_handler f) handler.handler))
+      (λ e. rows_land g f (covering m insn.pc) h) (λ e. tt)
 
   insn_lands : (insn : Insn) (r : OpRow) (g : TypeFrame) (f : TagShape) → types.IsSound m insn r frames g → AllByRecursion (ActLands IsTyped m.code) (tag_acts m insn r f)
   insn_lands insn r g f s = acts_land IsTyped m insn r f

@@ -2,11 +2,10 @@
 -- goes down, and no instruction lifts one by much.
 use Rattle.std.proofs.Common.{◌≡◌, ℕ, zero, suc, ◌+◌, ◌*◌, ◌<◌, ◌≤◌, Bool, true, false, List, [], ◌∷◌, ◌++◌, length, map, drop, Option, Some, None, refl, ap, arith, ◌&&◌, if◌then◌else◌, slice_get, slice_set}
 use Rattle.std.{specs.List.AllByRecursion, proofs.lemmas.Bool.cond_both}
-use Rattle.jvm_types.specs.{CodeTable.{row, value_of, locals_after}, Verifying.edges, declared.{code.{Insn.Insn, Op.Op}, op_row.{Given.Given, OpRow.OpRow}, program.MethodInfo.MethodInfo}}
-use Rattle.jvm_types.{specs.declared.{program.{Program.Program, Row.Row, Target.Target}, refusal.SRule.{SRule, TheVariants.{S1, S2, S3, S4}}}, proofs.EachAfter.all_append}
-use Rattle.checked_program.specs.LockTags.{TagShape, same_tag, same_tags, meet_tags, without}
+use Rattle.jvm_types.specs.{CodeTable.{row, value_of, locals_after}, Verifying.edges, declared.{code.{Insn.Insn, Op.Op}, op_row.{Given.Given, OpRow.OpRow}, program.{MethodInfo.MethodInfo, Row.Row}}}
+use Rattle.jvm_types.{specs.declared.{program.{Program.Program, Target.Target}, refusal.SRule.{SRule, TheVariants.{S1, S2, S3, S4}}}, proofs.EachAfter.all_append}
+use Rattle.checked_program.specs.{LockTags.{TagShape, same_tag, same_tags, meet_tags, without}, Visits.{Act, Bring}, declared.tag.Tag.{Tag, TheVariants.{Untagged, At}}}
 use Rattle.checked_program.specs.Tagging.{moved_tags, tags_by_op, tags_after, tags_at_handler, catchers, enters_untagged, exits_other, leaves_held, tag_meeting, break_if, acts_at, tag_plan}
-use Rattle.checked_program.specs.{Visits.{Act, Bring}, declared.tag.Tag.{Tag, TheVariants.{Untagged, At}}}
 use Rattle.laws_sections.proofs.{RowGives.few_given, TagOrder.{own_tag, own_tags, one_frame}, VisitsEnd.{BringsUpTo, Ranks}}
 use Rattle.jvm_types.specs.declared.code.Op.TheVariants as ops
 
@@ -67,9 +66,8 @@ frame_falls g f e = by_tests (same_tags g.stack (meet_tags g.stack f.stack)) (sa
         → frame_rank (tag_meeting.meet g f) < frame_rank g
     by_tests a b false c e h k = absurd (cc)
     by_tests true true true c e h k = absurd (cc)
-    by_tests true false true c e h k = omega (arith, h, k)
-    by_tests false true true c e h k = omega (arith, h, k)
     by_tests false false true c e h k = omega (arith, h, k)
+    by_tests a b c d e h k = omega (arith, h, k)
 
 -- ---- the frame after an instruction, and at a handler
 

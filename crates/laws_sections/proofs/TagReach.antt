@@ -1,5 +1,5 @@
 -- Tagging reaches only what typing reaches; and what holds of the tags at pc 0, and along each edge, holds of all.
-use Rattle.std.{proofs.Common.{◌≡◌, ℕ, true, List, Option, Some, None, refl, sym, ap, ◌∙◌, subst, slice_get}, specs.List.AllByRecursion}
+use Rattle.std.{proofs.Common.{◌≡◌, ℕ, true, List, Option, Some, refl, sym, ap, ◌∙◌, subst, slice_get}, specs.List.AllByRecursion}
 use Rattle.jvm_types.specs.{CodeGrammar.is_start, CodeTable.row, Verifying.{edges, IsLaidOut}, declared.{code.Insn.Insn, op_row.OpRow.OpRow, program.{MethodInfo.MethodInfo, Program.Program}}}
 use Rattle.jvm_types.{specs.declared.program.Target.Target, proofs.EachAfter.all_weaker}
 use Rattle.laws_programs.proofs.{CodeOrder.one_number, LocalGoing.{begins, local_law}}

@@ -1,13 +1,12 @@
 -- What holds of the first instruction of a method, and goes along its edges, holds of each that is reached, whatever its types.
-use Rattle.std.proofs.Common.{◌≡◌, ◌<◌, ℕ, zero, suc, length, true, List, [], ◌∷◌, Option, Some, None, refl, sym, ◌∙◌, subst, ◌==◌, slice_get, get_or}
-use Rattle.std.{specs.List.{AllByRecursion, list_any}, proofs.lemmas.{Bool.{or_left, or_right, eq-eqb, eqb-true}, Option.{slice_get-get_or, slice_get_within}}}
+use Rattle.std.{proofs.Common.{◌≡◌, ◌<◌, ℕ, zero, suc, length, true, List, [], ◌∷◌, Option, Some, None, refl, sym, ◌∙◌, subst, ◌==◌, slice_get, get_or}, specs.List.{AllByRecursion, list_any}}
+use Rattle.std.proofs.lemmas.{Bool.{or_left, or_right, eq-eqb, eqb-true}, Option.{slice_get-get_or, slice_get_within}}
 use Rattle.jvm_types.specs.{CodeTable.row, Numbers.has_number, Verifying.edges, declared.{code.Insn.Insn, op_row.OpRow.OpRow, program.{MethodInfo.MethodInfo, Program.Program, Row.Row, Target.Target}}}
 use Rattle.jvm_types.specs.declared.refusal.SRule.{SRule}
 use Rattle.checked_program.specs.{LockTags.{TagShape, IsShapeBelow}, Tagging.{tags_after, tags_at_handler, catchers, tag_acts, acts_at, tag_meeting, tag_plan, HasTagging}}
 use Rattle.checked_program.specs.Visits.{Act, Plan, PlanNode, plan_nodes, HasFrames}
-use Rattle.laws_sections.proofs.{TagActs.{to_handler, acts_kept, all_acts, AreKept}, TagOrder.tag_order}
+use Rattle.laws_sections.proofs.{TagActs.{to_handler, acts_kept, all_acts, AreKept}, TagOrder.tag_order, VisitedNodes.{Orders, IsFirstOf, LandsOn, IsActFine}}
 use Rattle.laws_sections.proofs.VisitPaths.{AreLive, ActLeads, IsSettled, settled, final_frame, visits_length, first_length, first_live, all_lead, starts_below}
-use Rattle.laws_sections.proofs.VisitedNodes.{Orders, IsFirstOf, LandsOn, IsActFine}
 
 -- ---- lists of pcs, and of handler rows
 

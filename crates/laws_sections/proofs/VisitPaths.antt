@@ -1,11 +1,11 @@
 -- The course of the visits of any kind: under the last frames each instruction is sound, and what goes along the edges from
 -- the start on holds of every instruction with a frame.
-use Rattle.std.proofs.Common.{⊎_elim, ◌≡◌, ℕ, zero, suc, length, length-set, Bool, true, false, cond, List, [], ◌∷◌, map, Option, Some, None, Result, Ok, ◌⊎◌, inl, inr, refl, sym, ap, ◌∙◌, subst, ◌==◌, slice_get, slice_set}
+use Rattle.std.proofs.Common.{⊎_elim, ◌≡◌, ℕ, zero, suc, length, length-set, Bool, true, false, cond, List, [], ◌∷◌, map, Option, Some, None, Ok, ◌⊎◌, inl, inr, refl, sym, ap, ◌∙◌, subst, ◌==◌, slice_get, slice_set}
 use Rattle.std.{specs.List.AllByRecursion, proofs.lemmas.{List.length-map, Option.same_Some}}
 use Rattle.jvm_types.{specs.declared.code.Insn.Insn, proofs.EachAfter.all_weaker}
 use Rattle.laws_programs.proofs.{LocalEdges.{unclashed as none_clashes}, LocalGoing.got_set}
-use Rattle.checked_program.specs.Visits.{Act, Break, Bring, PlanNode, Plan, unreached, joined, edge_brought, edges_brought, meeting_clash, unless_meeting_clash, acted, acts_on, visited_node, plan_visited, first_waiting, next_waiting, nodes_for, plan_nodes, PlanVisits, HasFrames}
-use Rattle.laws_sections.proofs.VisitedNodes.{IsFirstOf, Orders, IsBelow, IsRisen, AreRisen, frame_trans, risen_self, risen_length, risen_from, risen_to, LandsOn, IsActFine, Sound, sound_risen, unclashed, Does, does}
+use Rattle.checked_program.specs.Visits.{Act, Break, Bring, PlanNode, Plan, unreached, joined, edge_brought, edges_brought, meeting_clash, acted, acts_on, visited_node, plan_visited, first_waiting, next_waiting, nodes_for, plan_nodes, PlanVisits, HasFrames}
+use Rattle.laws_sections.proofs.VisitedNodes.{IsFirstOf, Orders, IsBelow, AreRisen, frame_trans, risen_self, risen_length, risen_from, risen_to, LandsOn, IsActFine, Sound, sound_risen, unclashed, Does, does}
 
 -- ---- a node is set
 
@@ -63,7 +63,9 @@ module _ {A R : Type 0} (p : Plan A R) (Below : A → A → Type 0) (order : Ord
       by_frame : (o : Option A) → node.frame ≡ o → acted p.meeting p.code (acts_on p i o) (slice_set nodes i (cleared node)) ≡ Ok mid → IsVisit i node nodes mid
       by_frame None k made = record {
         there = e;
-        risen = let same : slice_set nodes i (cleared node) ≡ mid = cc in subst (AreRisen p.meeting Below order (slice_set nodes i (cleared node))) same (risen_self p.meeting Below order (slice_set nodes i (cleared node)));
+        risen =
+            let same : slice_set nodes i (cleared node) ≡ mid = cc in
+            subst (AreRisen p.meeting Below order (slice_set nodes i (cleared node))) same (risen_self p.meeting Below order (slice_set nodes i (cleared node)));
         sound = λ f h. let bad : None ≡ Some f = sym k ∙ h in absurd (cc);
       }
       by_frame (Some g) k made =
@@ -73,9 +75,10 @@ module _ {A R : Type 0} (p : Plan A R) (Below : A → A → Type 0) (order : Ord
   visit_goes : (i : ℕ) (node : PlanNode A) (nodes mid : List (PlanNode A)) → IsGoing nodes → IsVisit i node nodes mid → IsGoing mid
   visit_goes i node nodes mid going v j b f e w k =
       let a = risen_from p.meeting Below order (slice_set nodes i (cleared node)) mid j b v.risen e in
-      ⊎_elim (λ (h : (j ≡ i) × (cleared node ≡ a.0)). subst (λ (n : ℕ). Sound p.meeting Below order p.code mid (p.acts n f)) (sym h.0) (v.sound f (ap (λ (n : PlanNode A). n.frame) h.1 ∙ (a.2.kept w).1 ∙ k)))
+      ⊎_elim
+      (λ (h : (j ≡ i) × (cleared node ≡ a.0)). subst (λ (n : ℕ). Sound p.meeting Below order p.code mid (p.acts n f)) (sym h.0) (v.sound f (ap (λ (n : PlanNode A). n.frame) h.1 ∙ (a.2.kept w).1 ∙ k)))
       (λ (h : slice_get nodes j ≡ Some a.0). sound_risen p.meeting Below order p.code (slice_set nodes i (cleared node)) mid (p.acts j f) v.risen
-          (sound_cleared nodes i node (p.acts j f) v.there (going j a.0 f h (a.2.kept w).0 ((a.2.kept w).1 ∙ k))))
+      (sound_cleared nodes i node (p.acts j f) v.there (going j a.0 f h (a.2.kept w).0 ((a.2.kept w).1 ∙ k))))
       (got_set nodes i j (cleared node) a.0 a.1)
 
   -- a visit is that of a node, or of none
@@ -193,7 +196,8 @@ module _ {A R : Type 0} (p : Plan A R) (Below : A → A → Type 0) (order : Ord
   acted_live L meets [] nodes mid lead all e = let same : nodes ≡ mid = cc in subst (AreLive L) same all
   acted_live L meets (Break rule pc ∷ acts) nodes mid lead all e = absurd (cc)
   acted_live L meets (Bring rule tos f ∷ acts) nodes mid lead all e =
-      acted_live L meets acts (edges_brought p.meeting p.code tos f nodes) mid lead.1 (all_brought_live L meets tos f nodes lead.0 all) (unclashed rule (meeting_clash p.meeting p.code tos f nodes) (acted p.meeting p.code acts (edges_brought p.meeting p.code tos f nodes)) mid e).1
+      acted_live L meets acts (edges_brought p.meeting p.code tos f nodes) mid lead.1 (all_brought_live L meets tos f nodes lead.0 all)
+      (unclashed rule (meeting_clash p.meeting p.code tos f nodes) (acted p.meeting p.code acts (edges_brought p.meeting p.code tos f nodes)) mid e).1
 
   cleared_live : (L : ℕ → A → Type 0) (nodes : List (PlanNode A)) (i : ℕ) (node : PlanNode A) → slice_get nodes i ≡ Some node → AreLive L nodes → AreLive L (slice_set nodes i (cleared node))
   cleared_live L nodes i node e all j b g k h = ⊎_elim

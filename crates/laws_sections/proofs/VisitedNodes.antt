@@ -1,6 +1,6 @@
 -- What visits of any kind leave at the nodes, of whatever code: frames only rise, one that has changed waits, and under the
 -- last frames no rule is broken and each edge to a node with a frame fits. Where pcs repeat, an edge leads to the first.
-use Rattle.std.proofs.Common.{◌≡◌, ℕ, zero, suc, length, Bool, true, false, cond, not, ◌&&◌, ◌||◌, List, [], ◌∷◌, Option, Some, None, Result, Ok, refl, sym, ap, ◌∙◌, subst, arith, ◌==◌, slice_get, IsSomeAnd}
+use Rattle.std.proofs.Common.{◌≡◌, ℕ, zero, suc, length, Bool, true, false, cond, not, ◌&&◌, ◌||◌, List, [], ◌∷◌, Option, Some, None, Result, Ok, refl, sym, ap, ◌∙◌, subst, ◌==◌, slice_get, IsSomeAnd}
 use Rattle.std.{specs.List.{AllByRecursion, AllZip}, proofs.lemmas.{Bool.{and_right, eq-eqb, eqb-true, not-false, or_parts, true≢false}, Option.same_Some}}
 use Rattle.jvm_types.{specs.{Numbers.has_number, declared.code.Insn.Insn}, proofs.EachAfter.all_weaker}
 use Rattle.laws_programs.proofs.LocalEdges.{unclashed as none_clashes}
@@ -23,7 +23,8 @@ pub record Orders {A : Type 0} (d : Meeting A) (Below : A → A → Type 0) : Ty
   pub own : (f : A) → d.clashes f f ≡ false
   pub again : (g f : A) → d.clashes g f ≡ false → d.clashes (d.meet g f) f ≡ false
 
-pub unclashed : {A R : Type 0} (rule : R) (o : Option ℕ) (more : Result (List (PlanNode A)) (R × ℕ)) (mid : List (PlanNode A)) → unless_meeting_clash rule o more ≡ Ok mid → (o ≡ None) × (more ≡ Ok mid)
+pub unclashed : {A R : Type 0} (rule : R) (o : Option ℕ) (more : Result (List (PlanNode A)) (R × ℕ)) (mid : List (PlanNode A))
+    → unless_meeting_clash rule o more ≡ Ok mid → (o ≡ None) × (more ≡ Ok mid)
 unclashed rule (Some pc) more mid e = absurd (cc)
 unclashed rule None more mid e = (refl, e)
 
@@ -142,7 +143,8 @@ module _ {A : Type 0} (d : Meeting A) (Below : A → A → Type 0) (order : Orde
             rest = ap (λ t. cond t (Some insn.pc) (meeting_clash d code tos f nodes)) test ∙ fewer_clash code nodes k;
           }
         where
-          at : clashes_with d node.frame f ≡ false → (j : ℕ) (b : PlanNode A) → IsFirstOf (insn ∷ code) to j → slice_get (joined d node.waits node.frame f ∷ nodes) j ≡ Some b → IsBelow (Some f) b.frame
+          at : clashes_with d node.frame f ≡ false → (j : ℕ) (b : PlanNode A)
+              → IsFirstOf (insn ∷ code) to j → slice_get (joined d node.waits node.frame f ∷ nodes) j ≡ Some b → IsBelow (Some f) b.frame
           at free zero b first e = subst (λ (n : PlanNode A). IsBelow (Some f) n.frame) (same_Some _ _ e) (joined_rises node.waits node.frame f free).1
           at free (suc j) b first e = absurd (true≢false (sym t ∙ first.0))
       by_test false t c k more = record {

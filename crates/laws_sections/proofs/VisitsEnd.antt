@@ -1,10 +1,10 @@
 -- Visits of any kind end, where frames have ranks: a frame that met another and changed has a lower one, and an instruction
 -- brings frames whose ranks are not far above that of its own. A visit clears one flag, and a node that begins to wait has a
 -- frame that went down; one without a frame is above all frames that it can have.
-use Rattle.std.proofs.Common.{◌≡◌, ℕ, zero, suc, ◌+◌, ◌*◌, ◌<◌, ◌≤◌, Bool, true, false, List, [], ◌∷◌, map, Option, Some, None, Result, Ok, Err, ◌⊎◌, inl, inr, refl, sym, ap, ◌∙◌, subst, arith, ◌||◌, not, ◌==◌, if◌then◌else◌, slice_get, slice_set}
+use Rattle.std.proofs.Common.{◌≡◌, ℕ, zero, suc, ◌+◌, ◌*◌, ◌<◌, ◌≤◌, Bool, true, false, List, [], ◌∷◌, map, Option, Some, None, Result, Ok, Err, ◌⊎◌, inl, inr, refl, sym, ap, subst, arith, ◌||◌, not, ◌==◌, if◌then◌else◌, slice_get, slice_set}
 use Rattle.std.{specs.List.AllByRecursion, proofs.lemmas.Bool.cond_both}
 use Rattle.jvm_types.{specs.declared.code.Insn.Insn, proofs.EachAfter.all_weaker}
-use Rattle.checked_program.specs.Visits.{Meeting, Act, Break, Bring, PlanNode, Plan, unreached, joined, edge_brought, edges_brought, meeting_clash, unless_meeting_clash, acted, acts_on, visited_node, plan_visited, first_waiting, next_waiting, nodes_for, plan_nodes, PlanVisits, PlanBreaks, HasFrames, IsBroken}
+use Rattle.checked_program.specs.Visits.{Meeting, Act, Break, Bring, PlanNode, Plan, unreached, joined, edge_brought, edges_brought, meeting_clash, acted, acts_on, visited_node, plan_visited, first_waiting, next_waiting, nodes_for, plan_nodes, PlanVisits, PlanBreaks, HasFrames, IsBroken}
 use Rattle.laws_sections.proofs.VisitedNodes.{unclashed}
 
 -- ---- ranks
@@ -161,13 +161,11 @@ module _ {A : Type 0} (d : Meeting A) (rank : A → ℕ) (gain most : ℕ) (equa
   next_clears [] from i e = absurd (cc)
   next_clears (node ∷ nodes) from i e = by_test node.waits refl e (λ h. next_clears nodes (suc from) i h)
     where
-      first : (t : Bool) → node.waits ≡ t → t ≡ true → weights rank most (record node { waits = false } ∷ nodes) < weights rank most (node ∷ nodes)
-      first t w true' = subst (λ (b : Bool). weights rank most (record node { waits = false } ∷ nodes) < weight rank most node.frame b + weights rank most nodes) (sym (w ∙ true')) (omega arith)
-
       by_test : (t : Bool) → node.waits ≡ t → (if t then Some from else first_waiting (suc from) nodes) ≡ Some i → (first_waiting (suc from) nodes ≡ Some i → IsCleared nodes (suc from) i) → IsCleared (node ∷ nodes) from i
       by_test true w h more =
           let here : from ≡ i = cc in
-          record { number = 0; there = omega (arith, here); node = node; got = refl; under = λ b u. (u.0, u); roomy = refl; less = first true w refl }
+          let less = subst (λ (b : Bool). weights rank most (record node { waits = false } ∷ nodes) < weight rank most node.frame b + weights rank most nodes) (sym w) (omega arith) in
+          record { number = 0; there = omega (arith, here); node = node; got = refl; under = λ b u. (u.0, u); roomy = refl; less = less }
       by_test false w h more =
           let later : IsCleared nodes (suc from) i = more h in
           record {

@@ -4,8 +4,7 @@ use Rattle.std.proofs.Common.{◌≡◌, ℕ, zero, suc, Bool, true, false, cond
 use Rattle.std.{specs.List.AllByRecursion, proofs.lemmas.{Bool.{cond_both, eq-eqb, eqb-true}, List.length-map}}
 use Rattle.jvm_types.{specs.{CodeGrammar.is_start, declared.code.Insn.Insn}, proofs.EachAfter.all_weaker}
 use Rattle.checked_program.specs.Visits.{Act, Break, Bring, PlanNode, Plan, plan_nodes, HasFrames, frame_at_pc, EdgeFits}
-use Rattle.laws_sections.proofs.TaggedPaths.{first_there}
-use Rattle.laws_sections.proofs.VisitPaths.{AreLive, ActLeads, IsSettled, settled, visits_length, first_length, all_lead, first_live, starts_below}
+use Rattle.laws_sections.proofs.{TaggedPaths.first_there, VisitPaths.{AreLive, ActLeads, IsSettled, settled, visits_length, first_length, all_lead, first_live, starts_below}}
 use Rattle.laws_sections.proofs.VisitedNodes.{IsFirstOf, Orders, IsBelow, LandsOn, Sound}
 
 -- ---- what the law asks for
