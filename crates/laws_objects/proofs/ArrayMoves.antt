@@ -2,15 +2,14 @@
 use Rattle.std.proofs.Common.{◌≡◌, ℕ, zero, suc, ◌+◌, ◌<◌, Bool, true, false, List, [], ◌∷◌, ◌++◌, length, map, drop, replicate, Option, Some, None, refl, sym, ap, ◌∙◌, subst, arith, slice_set, slice_index_or}
 use Rattle.std.{specs.List.AllByRecursion, proofs.lemmas.List.get_or-drop}
 use Rattle.lists.proofs.ListLaws.{all_weaker}
-use Rattle.jvm_types.specs.{CodeTable.{value_of, stack_after, locals_after}, Numbers.has_number, Verifying.edges}
-use Rattle.jvm_types.specs.declared.{code.Insn.Insn, op_row.{Given.{Given, TheVariants.{Fresh, Taken, Local}}, OpRow.OpRow}, program.Target.Target, typing.VType.VType}
+use Rattle.jvm_types.specs.{CodeTable.{value_of, stack_after, locals_after}, Numbers.has_number, Verifying.edges, declared.{code.Insn.Insn, op_row.Given.{Given, TheVariants.{Fresh, Taken, Local}}}}
+use Rattle.jvm_types.specs.declared.{op_row.OpRow.OpRow, program.Target.Target, typing.VType.{VType, TheVariants.{Null, Ref, Top}}}
 use Rattle.checked_program.specs.{Colours.{ColourShape, is_read_of, is_coloured, IsColouring}, LockTags.TagShape, MarkedProgram.{MarkedProgram, IsMarked}, OwnedArrays.{may_take_array, IsOwnedArrayField, IsOwnedAt}, SectionLaws.KeepsArray, TaggedCode.{IsAt, row_of}}
 use Rattle.checked_program.proofs.NamedFields.{target_named}
 use Rattle.laws_sections.proofs.ArrayColours.{array_law, locals_kept, none_replicate, reads_own}
 use Rattle.machine_types.specs.{Construction.{IsNoStored, IsArraySlot, SlotsFrom}, OwnedPlaces.{Stores, IsFieldWord, IsStoredAt, IsStoredNowhere}, Standing.{Standing, tags_of}, Threads.Frame}
 use Rattle.laws_threads.proofs.Standings.{are_tagged}
 use Rattle.laws_objects.proofs.{ArraySlots.{from_each, local_set}, BuiltEffects.{TypeOld, GivenOld, WriteOld, RowOld}}
-use Rattle.jvm_types.specs.declared.typing.VType.TheVariants as types
 
 -- ---- where a place of the stack behind an instruction comes from
 
@@ -43,11 +42,9 @@ each_source P count rest (g ∷ gives) all (suc k) = each_source P count rest gi
 
 -- of a type, null or stored nowhere
 pub made_clean : (stores : Stores) (t : VType) (made : ℕ) → stores 0 ≡ None → TypeOld (IsStoredNowhere stores) t made → IsNoStored stores t made
-made_clean stores types.Null made null h = ap stores h ∙ null
-made_clean stores (types.Ref class) made null h = h
-made_clean stores types.This made null h = absurd h
-made_clean stores (types.New q) made null h = absurd h
-made_clean stores t made null h = tt
+made_clean stores Null made null h = ap stores h ∙ null
+made_clean stores (Ref class) made null h = h
+made_clean stores t made null h = first_of (assumption, search h)
 
 abbrev pub GivenClean : Stores → (made : ℕ) → Given → Type 0
 GivenClean stores made (Fresh t) = IsNoStored stores t made
@@ -113,21 +110,21 @@ module _ (c : MarkedProgram) (marked : IsMarked c) (stores : Stores) (f : Frame)
     -- what a place behind the instruction comes from
     abbrev pub SourceFine : Given → Type 0
     SourceFine (Fresh t) = Unit {0}
-    SourceFine (Taken q) = IsArraySlot c stores f i q (slice_index_or ts q types.Top) (slice_index_or sv q 0)
-    SourceFine (Local x) = IsNoStored stores (slice_index_or lt x types.Top) (slice_index_or lv x 0)
+    SourceFine (Taken q) = IsArraySlot c stores f i q (slice_index_or ts q Top) (slice_index_or sv q 0)
+    SourceFine (Local x) = IsNoStored stores (slice_index_or lt x Top) (slice_index_or lv x 0)
 
     -- ---- the locals
 
     pub locals_clean : WriteClean stores made (row_of c.program m insn target).writes → ((q : ℕ) → SourceFine (Taken q)) → ((x : ℕ) → SourceFine (Local x)) → SlotsFrom (λ place. IsNoStored stores) 0 lt lv
-        → SlotsFrom (λ place. IsNoStored stores) 0 (locals_after types.Top (λ t. t) (row_of c.program m insn target).writes ts lt) (locals_after 0 (λ t. made) (row_of c.program m insn target).writes sv lv)
+        → SlotsFrom (λ place. IsNoStored stores) 0 (locals_after Top (λ t. t) (row_of c.program m insn target).writes ts lt) (locals_after 0 (λ t. made) (row_of c.program m insn target).writes sv lv)
     locals_clean written taken locals a = by_write (row_of c.program m insn target).writes refl written
       where
-        given : (x : ℕ) (g : Given) → (row_of c.program m insn target).writes ≡ Some (x, g) → GivenClean stores made g → IsNoStored stores (value_of types.Top (λ t. t) ts lt g) (value_of 0 (λ t. made) sv lv g)
+        given : (x : ℕ) (g : Given) → (row_of c.program m insn target).writes ≡ Some (x, g) → GivenClean stores made g → IsNoStored stores (value_of Top (λ t. t) ts lt g) (value_of 0 (λ t. made) sv lv g)
         given x (Fresh t) e h = h
         given x (Taken q) e h = (taken q).other (not_written x q e)
         given x (Local y) e h = locals y
 
-        by_write : (o : Option (ℕ × Given)) → (row_of c.program m insn target).writes ≡ o → WriteClean stores made o → SlotsFrom (λ place. IsNoStored stores) 0 (locals_after types.Top (λ t. t) o ts lt) (locals_after 0 (λ t. made) o sv lv)
+        by_write : (o : Option (ℕ × Given)) → (row_of c.program m insn target).writes ≡ o → WriteClean stores made o → SlotsFrom (λ place. IsNoStored stores) 0 (locals_after Top (λ t. t) o ts lt) (locals_after 0 (λ t. made) o sv lv)
         by_write None e h = a
         by_write (Some x) e h = local_set stores 0 lt lv x.0 _ _ (given x.0 x.1 e h) a
 
@@ -151,7 +148,7 @@ module _ (c : MarkedProgram) (marked : IsMarked c) (stores : Stores) (f : Frame)
         from k = source (row_of c.program m insn target).gives (length (row_of c.program m insn target).takes) k
 
         slot : (k : ℕ) (x : Given) → source (row_of c.program m insn target).gives (length (row_of c.program m insn target).takes) k ≡ x → SourceFine x
-            → IsArraySlot c stores (record f { pc = pc; stack = map (value_of 0 (λ t. made) sv lv) (row_of c.program m insn target).gives ++ rest; locals = locals }) j k (value_of types.Top (λ t. t) ts lt x) (value_of 0 (λ t. made) sv lv x)
+            → IsArraySlot c stores (record f { pc = pc; stack = map (value_of 0 (λ t. made) sv lv) (row_of c.program m insn target).gives ++ rest; locals = locals }) j k (value_of Top (λ t. t) ts lt x) (value_of 0 (λ t. made) sv lv x)
         slot k (Fresh t) e fine = record {
           owned = λ o word is. is_made.read o.fi (o.owned, sym (coloured_by k o.fi o.colours o.colouring ∙ ap (value_of false (λ type. is_read_of o.fi insn.op target) (o.colours i).stack (o.colours i).locals) e) ∙ o.coloured) word is;
           other = λ none. subst (GivenClean stores made) e (each_source (GivenClean stores made) (length (row_of c.program m insn target).takes) (λ q. tt) (row_of c.program m insn target).gives (is_made.other (λ fi reads. none (here fi reads))).0 k);
@@ -185,12 +182,12 @@ module _ (c : MarkedProgram) (marked : IsMarked c) (stores : Stores) (f : Frame)
 
         pub stack_clean : ((k : ℕ) → SourceFine (source (row_of c.program m insn target).gives (length (row_of c.program m insn target).takes) k))
             → SlotsFrom (IsArraySlot c stores (record f { pc = pc; stack = map (value_of 0 (λ t. made) sv lv) (row_of c.program m insn target).gives ++ rest; locals = locals }) j) 0
-            (stack_after types.Top (λ t. t) (row_of c.program m insn target) ts lt) (map (value_of 0 (λ t. made) sv lv) (row_of c.program m insn target).gives ++ rest)
+            (stack_after Top (λ t. t) (row_of c.program m insn target) ts lt) (map (value_of 0 (λ t. made) sv lv) (row_of c.program m insn target).gives ++ rest)
         stack_clean fine =
-            from_each (IsArraySlot c stores g j) 0 (stack_after types.Top (λ t. t) (row_of c.program m insn target) ts lt) stack
+            from_each (IsArraySlot c stores g j) 0 (stack_after Top (λ t. t) (row_of c.program m insn target) ts lt) stack
             (λ k n e.
             let place : n ≡ k = omega (arith, e) in
-            subst (λ (x : ℕ). IsArraySlot c stores g j x (slice_index_or (stack_after types.Top (λ t. t) (row_of c.program m insn target) ts lt) k types.Top) (slice_index_or stack k 0)) (sym place)
-            (subst (λ (t : VType). IsArraySlot c stores g j k t (slice_index_or stack k 0)) (sym (stack_source types.Top (λ t. t) (row_of c.program m insn target) ts lt k))
-            (subst (λ (x : ℕ). IsArraySlot c stores g j k (value_of types.Top (λ t. t) ts lt (from k)) x) (sym (source_is 0 (λ t. made) sv lv rest (length (row_of c.program m insn target).takes) same (row_of c.program m insn target).gives k))
+            subst (λ (x : ℕ). IsArraySlot c stores g j x (slice_index_or (stack_after Top (λ t. t) (row_of c.program m insn target) ts lt) k Top) (slice_index_or stack k 0)) (sym place)
+            (subst (λ (t : VType). IsArraySlot c stores g j k t (slice_index_or stack k 0)) (sym (stack_source Top (λ t. t) (row_of c.program m insn target) ts lt k))
+            (subst (λ (x : ℕ). IsArraySlot c stores g j k (value_of Top (λ t. t) ts lt (from k)) x) (sym (source_is 0 (λ t. made) sv lv rest (length (row_of c.program m insn target).takes) same (row_of c.program m insn target).gives k))
             (slot k (from k) refl (fine k)))))

@@ -10,9 +10,6 @@ use Rattle.jvm_types.specs.declared.typing.VType.TheVariants as types
 
 -- ---- slots one by one; where there is none its type says nothing, and its value is null
 
-abbrev pub Each : (Is : (place : ℕ) → VType → (v : ℕ) → Type 0) → List VType → List ℕ → Type 0
-Each Is ts vs = (k : ℕ) → Is k (slice_index_or ts k types.Top) (slice_index_or vs k 0)
-
 module _ (Is : (place : ℕ) → VType → (v : ℕ) → Type 0) where
   pub from_each : (n : ℕ) (ts : List VType) (vs : List ℕ)
       → ((k m : ℕ) → m ≡ n + k → Is m (slice_index_or ts k types.Top) (slice_index_or vs k 0))
@@ -66,9 +63,8 @@ module _ (Is : (place : ℕ) → VType → (v : ℕ) → Type 0) (along : AlongT
   edge_from n (t ∷ ts) (u ∷ us) (v ∷ vs) b a =
       let parts = both_are_true (is_below t u) (all_pairs is_below ts us) b in
       (along.rises n t u v parts.0 a.0, edge_from (suc n) ts us vs parts.1 a.1)
-  edge_from n [] (u ∷ us) vs b a = absurd (cc)
-  edge_from n (t ∷ ts) [] vs b a = absurd (cc)
-  edge_from n ts us vs b a = tt
+  edge_from n ts [] vs b a = tt
+  edge_from n ts us vs b a = first_of (assumption, cc)
 
   begun_from : (n class : ℕ) (o : VType) (ts : List VType) (vs : List ℕ) → o ≢ types.Int → o ≢ types.Top
       → SlotsFrom Is n ts vs → SlotsFrom Is n (initialised o class ts) vs
@@ -79,14 +75,9 @@ pub no_stored_along : (stores : Stores) → AlongTypes (λ place. IsNoStored sto
 no_stored_along stores = record { rises = λ k t u v b h. rises t u v b h; begins = λ k class o t v i n h. begins class o t v i n h }
   where
     rises : (t u : VType) (v : ℕ) → is_below t u ≡ true → IsNoStored stores t v → IsNoStored stores u v
-    rises t types.Int v b h = tt
+    rises types.Int types.Int v b h = tt
     rises t types.Top v b h = tt
-    rises types.Null types.Null v b h = h
-    rises types.Null (types.Ref c) v b h = h
-    rises (types.Ref d) (types.Ref c) v b h = h
-    rises types.This types.This v b h = h
-    rises (types.New p) (types.New q) v b h = h
-    rises t u v b h = absurd (cc)
+    rises t u v b h = first_of (assumption, cc)
 
     -- a type of references
     as_reference : (class : ℕ) (t : VType) (v : ℕ) → t ≢ types.Int → t ≢ types.Top → IsNoStored stores t v → IsNoStored stores (types.Ref class) v
@@ -130,8 +121,7 @@ module _ (Is : (place : ℕ) → VType → (v : ℕ) → Type 0) (along : AlongT
 
 pub local_set : (stores : Stores) (n : ℕ) (ts : List VType) (vs : List ℕ) (k : ℕ) (t : VType) (v : ℕ) → IsNoStored stores t v → SlotsFrom (λ place. IsNoStored stores) n ts vs
     → SlotsFrom (λ place. IsNoStored stores) n (slice_set ts k t) (slice_set vs k v)
-local_set stores n [] vs k t v h a = tt
-local_set stores n (u ∷ ts) [] zero t v h a = tt
-local_set stores n (u ∷ ts) [] (suc k) t v h a = tt
 local_set stores n (u ∷ ts) (x ∷ vs) zero t v h a = (h, a.1)
 local_set stores n (u ∷ ts) (x ∷ vs) (suc k) t v h a = (a.0, local_set stores (suc n) ts vs k t v h a.1)
+local_set stores n (u ∷ ts) [] zero t v h a = tt
+local_set stores n ts vs k t v h a = tt

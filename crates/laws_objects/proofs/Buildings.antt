@@ -33,11 +33,8 @@ abbrev pub in_later : Building → World → (more : ℕ) → Building
 in_later b z more = record b { w = z; next = more }
 
 -- other arrays were stored then
-abbrev pub storing : Design → Stores → Design
-storing d stores = record d { owning = record d.owning { stores = stores } }
-
 abbrev pub with_stores : Building → Stores → Building
-with_stores b stores = record b { design = storing b.design stores }
+with_stores b stores = record b { design = record b.design { owning = record b.design.owning { stores = stores } } }
 
 -- ---- what stands in it
 
@@ -79,9 +76,6 @@ pub record LawfulBuilding : Type 0 where
   pub is_world : IsWorld w (words_of c.program) next
   pub fine : StoresFine owning.stores next
 
-abbrev pub lawful_in : (lawful : LawfulBuilding) (z : World) → IsWorld z (words_of lawful.c.program) lawful.next → LawfulBuilding
-lawful_in lawful z is = record { building = in_world lawful.building z; is_world = is; fine = lawful.fine }
-
 -- what is there from the start is finished
 pub first_finished : (w : World) (first next v : ℕ) → IsWorld w first next → v < first → IsFinished w next v
 first_finished w first next v is l = ((let r = is.room in omega (arith, r, l)), none_from (w v) (λ b e. (let i = (is.inside v b e).0 in omega (arith, i, l))))
@@ -109,7 +103,7 @@ pub record Moving : Type 0 where
 
 -- the world as the thread sees it
 abbrev pub sees : Moving → LawfulBuilding
-sees moving = lawful_in moving.lawful moving.k.now (moving.k.now_world moving.is_world)
+sees moving = record { building = in_world moving.lawful.building moving.k.now; is_world = moving.k.now_world moving.is_world; fine = moving.lawful.fine }
 
 -- ---- a state that is as construction says
 
@@ -133,14 +127,7 @@ pub record BuiltState : Type 0 where
 
 abbrev pub building_in : BuiltState → (t : ℕ) → Building
 building_in state t = record {
-  design = record {
-    c = state.c;
-    marked = state.marked;
-    frozen = state.frozen;
-    are = state.con.frozen_are;
-    owning = state.owning;
-    owns = state.con.owned_are;
-  };
+  design = record { c = state.c; marked = state.marked; frozen = state.frozen; are = state.con.frozen_are; owning = state.owning; owns = state.con.owned_are };
   w = state.w;
   next = slice_index state.s.words NEXT_FREE_WORD;
   t = t;

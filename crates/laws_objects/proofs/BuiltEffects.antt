@@ -2,24 +2,21 @@
 use Rattle.std.proofs.Common.{◌≡◌, ℕ, true, false, List, [], ◌∷◌, Option, Some, None, refl, ap, sym, subst, ◌∙◌, slice_get}
 use Rattle.std.specs.List.{AllByRecursion}
 use Rattle.lists.proofs.ListLaws.{all_weaker, same_some}
-use Rattle.jvm_types.specs.CodeTable.{type_of, want_of, row, constant_row, stack_row, get_static_row, put_static_row, get_row, put_row}
-use Rattle.jvm_types.specs.declared.{class_numbers.TheConstants.OBJECT_CLASS, code.Op.Op, op_row.{Given.{Given, TheVariants.Fresh}, OpRow.OpRow, Want.{Want, TheVariants.{AnObject, ToStart}}}}
-use Rattle.jvm_types.specs.declared.{program.{FieldInfo.FieldInfo, Kind.Kind, MethodInfo.MethodInfo, Program.Program, Target.Target}, typing.VType.VType}
+use Rattle.jvm_types.specs.{CodeTable.{type_of, want_of, row, constant_row, stack_row, get_static_row, put_static_row, get_row, put_row}, declared.class_numbers.TheConstants.OBJECT_CLASS}
+use Rattle.jvm_types.specs.declared.{code.Op.{Op, TheVariants.Getfield}, op_row.{Given.{Given, TheVariants.Fresh}, OpRow.OpRow, Want.{Want, TheVariants.{AnObject, ToStart}}}}
+use Rattle.jvm_types.specs.declared.{program.{FieldInfo.FieldInfo, Kind.{Kind, TheVariants.Ref}, MethodInfo.MethodInfo, Program.Program, Target.Target}, typing.VType.VType}
 use Rattle.laws_programs.specs.TargetLaws.{has_constant}
 use Rattle.machine_types.specs.{Effects.{effect, kept, variable_of}, ReadyObjects.out_object, declared.effect.Effect.Effect}
 use Rattle.machine_types.specs.declared.effect.Effect.TheVariants.{Goes, Reads, Writes, Indexes, Measures, Raises, Makes, Prints, Enters, Leaves, Waits, Notifies, NotifiesAll}
-use Rattle.machine_types.proofs.EffectCases.{Comes, goes, reads_static, writes_static, reads_field, writes_field, loads_element, stores_element, measures, raises, makes_object, makes_int_array}
-use Rattle.machine_types.proofs.EffectCases.{prints, enters, leaves, waits, notifies, notifies_all, GivenMade, WriteMade, HasConstant, comes}
+use Rattle.machine_types.proofs.EffectCases.{Comes, goes, reads_static, writes_static, reads_field, writes_field, loads_element, stores_element, measures, raises, makes_object, makes_int_array, prints, enters, leaves, waits, notifies, notifies_all, GivenMade, WriteMade, HasConstant, comes}
 use Rattle.laws_objects.proofs.Operands.{TakenOld, WantOld, takes_any, is_getfield}
-use Rattle.jvm_types.specs.declared.code.Op.TheVariants as ops
-use Rattle.jvm_types.specs.declared.program.Kind.TheVariants as kinds
 use Rattle.jvm_types.specs.declared.program.Target.TheVariants as targets
 use Rattle.jvm_types.specs.declared.typing.VType.TheVariants as types
 
 -- ---- values that are made
 
 abbrev pub KindOld : (ℕ → Type 0) → Kind → (v : ℕ) → Type 0
-KindOld Old (kinds.Ref class) v = Old v
+KindOld Old (Ref class) v = Old v
 KindOld Old kind v = Unit {0}
 
 -- null, or finished; nothing that is uninitialised is made so
@@ -69,11 +66,11 @@ module _ (Old : ℕ → Type 0) (out : Old out_object) (p : Program) (m : Method
   Is target r e = Built Old p target r e
 
   kind_old : (kind : Kind) (v : ℕ) → KindOld Old kind v → TypeOld Old (type_of kind) v
-  kind_old (kinds.Ref class) v h = h
+  kind_old (Ref class) v h = h
   kind_old kind v h = tt
 
   kept_old : (kind : Kind) (v : ℕ) → WantOld Old (want_of kind) v → KindOld Old kind (kept kind v)
-  kept_old (kinds.Ref class) v h = h
+  kept_old (Ref class) v h = h
   kept_old kind v h = tt
 
   same_field : (number other : ℕ) (f g : FieldInfo) → targets.Field number ≡ targets.Field other → slice_get p.fields number ≡ Some f → slice_get p.fields other ≡ Some g → f ≡ g
@@ -81,11 +78,8 @@ module _ (Old : ℕ → Type 0) (out : Old out_object) (p : Program) (m : Method
 
   -- a value that is made with nothing that is shared is finished
   given_old : (made : ℕ) (given : Given) → GivenMade made given → GivenOld Old made given
-  given_old made (Fresh types.Null) h = h
   given_old made (Fresh (types.Ref class)) h = subst Old (sym h.1) out
-  given_old made (Fresh types.Int) h = tt
-  given_old made (Fresh type) h = absurd h
-  given_old made given h = tt
+  given_old made given h = assumption
 
   write_old : (made : ℕ) (write : Option (ℕ × Given)) → WriteMade made write → WriteOld Old made write
   write_old made None h = tt
@@ -104,11 +98,8 @@ module _ (Old : ℕ → Type 0) (out : Old out_object) (p : Program) (m : Method
 
   -- what names no field is no `getfield`, and takes what stands on top
   taken_plain : (op : Op) (target : Target) → ((number : ℕ) → target ≡ targets.Field number → ⊥) → NamesField target op → has_constant op ≡ true → takes_any op ≡ false
-  taken_plain (ops.Getfield i) target never names h = let n = names refl in absurd (never n.0 n.1)
-  taken_plain ops.Iaload target never names h = absurd (let bad : false ≡ true = h in cc)
-  taken_plain ops.Iastore target never names h = absurd (let bad : false ≡ true = h in cc)
-  taken_plain ops.Arraylength target never names h = absurd (let bad : false ≡ true = h in cc)
-  taken_plain op target never names h = refl
+  taken_plain (Getfield i) target never names h = let n = names refl in absurd (never n.0 n.1)
+  taken_plain op target never names h = cc
 
   abbrev Takes : Target → Op → List ℕ → Type 0
   Takes target op s = takes_any op ≡ false → TakenOld Old (row p m pc target op).takes s

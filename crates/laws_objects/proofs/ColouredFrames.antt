@@ -3,14 +3,13 @@ use Rattle.std.proofs.Common.{◌≡◌, ℕ, zero, suc, ◌-◌, Bool, true, fa
 use Rattle.std.proofs.lemmas.Bool.{eqb-true, false_from_ne_true, true_from_ne_false}
 use Rattle.lists.proofs.ListLaws.{same_some}
 use Rattle.jvm_types.specs.{CodeTable.{row, value_of, locals_after}, Members.is_static, declared.{code.{Insn.Insn, Op.Op}, op_row.{Given.{Given, TheVariants.{Fresh, Taken, Local}}, OpRow.OpRow}}}
-use Rattle.jvm_types.specs.declared.program.{MethodInfo.MethodInfo, Target.Target}
-use Rattle.checked_program.specs.{Colours.{ColourShape, is_read_of, IsColouring}, LockTags.{TagShape, is_this, same_tag, without, entry_tags, IsTagBelow, AreTagsBelow, IsShapeBelow}, MarkedProgram.{MarkedProgram, IsMarked}}
-use Rattle.checked_program.specs.{OwnedArrays.{GetsOnThis, IsOwnedArrayField, IsOwnedAt}, TaggedCode.{IsAt, row_of}, Tagging.{moved_tags, tags_by_op, tags_at_handler}, declared.tag.Tag.{Tag, TheVariants.{Untagged, This, At}}}
+use Rattle.jvm_types.specs.declared.program.{MethodInfo.MethodInfo, Target.{Target, TheVariants.Field}}
+use Rattle.checked_program.specs.{Colours.{ColourShape, is_read_of, IsColouring}, LockTags.{TagShape, is_this, same_tag, without, IsTagBelow, AreTagsBelow}, MarkedProgram.{MarkedProgram, IsMarked}}
+use Rattle.checked_program.specs.{OwnedArrays.{GetsOnThis, IsOwnedArrayField, IsOwnedAt}, TaggedCode.{IsAt, row_of}, Tagging.{moved_tags, tags_by_op}, declared.tag.Tag.{Tag, TheVariants.{Untagged, This, At}}}
 use Rattle.laws_sections.proofs.{ArrayColours.{HasNoColour, each_reached, none_after, none_at_all, none_first, none_replicate, other_class}, TagReach.all_have}
 use Rattle.machine_types.specs.{Standing.{Standing, tags_of}, Threads.Frame}
 use Rattle.laws_threads.proofs.{MarkedMethods.method_at, Standings.are_tagged}
 use Rattle.jvm_types.specs.declared.code.Op.TheVariants as ops
-use Rattle.jvm_types.specs.declared.program.Target.TheVariants as targets
 
 -- ---- tags without `this`
 
@@ -30,11 +29,9 @@ hides_untagged n k = refl
 
 hides_set : (ts : List Tag) (i : ℕ) (t : Tag) → is_this t ≡ false → Hides ts
     → Hides (slice_set ts i t)
-hides_set [] i t e h k = h k
 hides_set (u ∷ ts) zero t e h zero = e
-hides_set (u ∷ ts) zero t e h (suc k) = h (suc k)
-hides_set (u ∷ ts) (suc i) t e h zero = h zero
 hides_set (u ∷ ts) (suc i) t e h (suc k) = hides_set ts i t e (λ j. h (suc j)) k
+hides_set ts i t e h k = h k
 
 hides_both : (ts us : List Tag) → Hides ts → Hides us → Hides (ts ++ us)
 hides_both [] us a b k = b k
@@ -78,23 +75,6 @@ record HasNoThis (f : TagShape) : Type 0 where
   stack : Hides f.stack
   locals : Hides f.locals
 
-this_falls : (f g : TagShape) → IsShapeBelow f g → HasNoThis f → HasNoThis g
-this_falls f g b h = record {
-  stack = tags_fall f.stack g.stack b.stack h.stack;
-  locals = tags_fall
-      f.locals g.locals b.locals h.locals;
-}
-
-this_caught : (f : TagShape) → HasNoThis f → HasNoThis (tags_at_handler f)
-this_caught f h = record { stack = hides_first Untagged [] refl hides_none; locals = h.locals }
-
-entry_hides : (m : MethodInfo) → is_static m.flags ≡ true → HasNoThis (entry_tags m)
-entry_hides m static = record {
-  stack = hides_none;
-  locals = subst (λ (b : Bool). Hides (if b then replicate m.max_locals Untagged else This ∷
-      replicate (m.max_locals - 1) Untagged)) (sym static) (hides_untagged m.max_locals);
-}
-
 moved_hides : (r : OpRow) (f : TagShape) → HasNoThis f → HasNoThis (moved_tags r f)
 moved_hides r f h = record {
   stack = hides_both (map (value_of Untagged (λ type. Untagged) f.stack f.locals) r.gives)
@@ -134,7 +114,9 @@ module _ (c : MarkedProgram) (marked : IsMarked c) (mi : ℕ) where
       let a = method_at c marked mi m at.in_program in
       let same : at.frames ≡ a.tags = same_some (sym at.of_method ∙ a.its_tags) in
       all_have c.program m a.tags a.holds.laid a.holds.sound HasNoThis
-      (entry_hides m static) this_falls this_caught
+      (record { stack = hides_none; locals = subst (λ (b : Bool). Hides (if b then replicate m.max_locals Untagged else This ∷ replicate (m.max_locals - 1) Untagged)) (sym static) (hides_untagged m.max_locals) })
+      (λ f g b h. record { stack = tags_fall f.stack g.stack b.stack h.stack; locals = tags_fall f.locals g.locals b.locals h.locals })
+      (λ f h. record { stack = hides_first Untagged [] refl hides_none; locals = h.locals })
       (λ j other next g d t k h. op_hides other.pc
       (row c.program m other.pc next other.op) other.op g.stack g refl h)
       a.holds.tagged i f (ap (λ (fs : List (Option TagShape)). slice_get fs i) (sym same)
@@ -145,17 +127,8 @@ module _ (c : MarkedProgram) (marked : IsMarked c) (mi : ℕ) where
   module _ (fi : ℕ) (o : IsOwnedArrayField c.program (tags_of c) fi) where
     reads_this : (op : Op) (target : Target) (f : TagShape) → is_read_of fi op target ≡ true
         → GetsOnThis fi op target f → slice_index_or f.stack 0 Untagged ≡ This
-    reads_this (ops.Getfield n) (targets.Field other) f e g = g (eqb-true other fi e)
+    reads_this (ops.Getfield n) (Field other) f e g = g (eqb-true other fi e)
     reads_this op target f e g = absurd (let bad : false ≡ true = e in cc)
-
-    reads_none : (i : ℕ) (m : MethodInfo) (insn : Insn) (target : Target) (f : TagShape)
-        → IsAt c.program (tags_of c) mi i m insn target f → is_static m.flags ≡ true
-        → is_read_of fi insn.op target ≡ false
-    reads_none i m insn target f at static = false_from_ne_true (is_read_of fi insn.op target) (λ e.
-        let on : slice_index_or f.stack 0 Untagged ≡ This =
-        reads_this insn.op target f e (o.read mi i m insn target f at) in
-        let bad : true ≡ false = sym (ap is_this on) ∙ (static_hides i m insn target f at static).stack 0 in
-        cc)
 
     static_none : (colours : ℕ → ColourShape) → IsColouring c.program (tags_of c) mi fi colours
         → (i : ℕ) (m : MethodInfo) (insn : Insn) (target : Target) (f : TagShape)
@@ -169,7 +142,10 @@ module _ (c : MarkedProgram) (marked : IsMarked c) (mi : ℕ) where
         (λ i j m insn other target next f g from to goes h static. subst HasNoColour
         (sym (k.onward i j m insn other target next f g from to goes))
         (none_after fi insn target (row_of c.program m insn target) (colours i)
-        (reads_none i m insn target f from static) (h static)))
+        (false_from_ne_true (is_read_of fi insn.op target) (λ e.
+        let on : slice_index_or f.stack 0 Untagged ≡ This = reads_this insn.op target f e (o.read mi i m insn target f from) in
+        let bad : true ≡ false = sym (ap is_this on) ∙ (static_hides i m insn target f from static).stack 0 in
+        cc)) (h static)))
         (λ i j m insn other target next f g from to goes h static. subst HasNoColour
         (sym (k.caught i j m insn other target next f g from to goes))
         (record { stack = none_first [] none_at_all; locals = (h static).locals }))

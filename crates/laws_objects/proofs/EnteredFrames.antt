@@ -2,16 +2,15 @@
 use Rattle.std.proofs.Common.{◌≡◌, ℕ, zero, suc, ◌+◌, ◌-◌, ◌≤◌, Bool, true, false, List, [], ◌∷◌, ◌++◌, length, map, replicate, Some, refl, sym, ap, ◌∙◌, subst, arith, slice_get, reverse, take, if◌then◌else◌}
 use Rattle.std.{specs.List.AllZip, proofs.lemmas.List.{length-map, reverse-append}}
 use Rattle.lists.proofs.TestLaws.{both_are_true}
-use Rattle.jvm_types.specs.{CodeTable.{type_of, want_of, arguments, is_init}, Members.is_static, declared.{code.Insn.Insn, op_row.Want.Want, program.{Kind.Kind, MethodInfo.MethodInfo, Target.Target}}}
-use Rattle.jvm_types.specs.declared.typing.VType.{VType}
+use Rattle.jvm_types.specs.{CodeTable.{type_of, want_of, arguments, is_init}, Members.is_static, declared.{code.Insn.Insn, op_row.Want.Want, program.Kind.{Kind, TheVariants.Ref}}}
+use Rattle.jvm_types.specs.declared.{program.{MethodInfo.MethodInfo, Target.Target}, typing.VType.VType}
 use Rattle.laws_programs.proofs.{CodeOrder.one_number, LocalGoing.begins}
 use Rattle.checked_program.specs.{LockTags.{TagShape, entry_tags}, TaggedCode.IsAt, declared.tag.Tag.{Tag, TheVariants.{Untagged, This}}}
 use Rattle.machine_types.specs.{Construction.{builds, makes_frozen, SlotIs, SlotsAre, Runs, IsFresh, ReceiverIs, SlotOf, IsNoStored, SlotsFrom}, Frames.{entry_frame, first_or_null}, OwnedPlaces.{Stores, IsStoredNowhere}, Standing.tags_of}
 use Rattle.machine_types.specs.Worlds.{IsFinished}
 use Rattle.laws_threads.proofs.{Lists.{zip_reverse, reverse_map}, MarkedMethods.method_at}
-use Rattle.laws_objects.proofs.{Buildings.{Building, FrameIn}, Landing.{IsJoined, land}, Operands.{WantOld, TakenOld}, PutPlaces.first_plain, Slots.{top_slot, made_slot, ref_slot}}
+use Rattle.laws_objects.proofs.{Buildings.{Building, FrameIn}, Landing.land, Operands.{WantOld, TakenOld}, PutPlaces.first_plain, Slots.{top_slot, made_slot, ref_slot}}
 use Rattle.jvm_types.specs.Types as types
-use Rattle.jvm_types.specs.declared.program.Kind.TheVariants as kinds
 use Rattle.jvm_types.specs.declared.typing.VType.TheVariants as vtypes
 
 -- ---- arguments
@@ -19,13 +18,13 @@ use Rattle.jvm_types.specs.declared.typing.VType.TheVariants as vtypes
 -- a reference is finished, or null
 abbrev pub ArgsOld : (ℕ → Type 0) → List Kind → List ℕ → Type 0
 ArgsOld Old [] [] = Unit {0}
-ArgsOld Old (kinds.Ref class ∷ args) (v ∷ vs) = Old v × ArgsOld Old args vs
+ArgsOld Old (Ref class ∷ args) (v ∷ vs) = Old v × ArgsOld Old args vs
 ArgsOld Old (kind ∷ args) (v ∷ vs) = ArgsOld Old args vs
 ArgsOld Old args vs = ⊥
 
 pub args_map : (Old More : ℕ → Type 0) → ((v : ℕ) → Old v → More v) → (args : List Kind) (vs : List ℕ) → ArgsOld Old args vs → ArgsOld More args vs
 args_map Old More f [] [] h = tt
-args_map Old More f (kinds.Ref class ∷ args) (v ∷ vs) h = (f v h.0, args_map Old More f args vs h.1)
+args_map Old More f (Ref class ∷ args) (v ∷ vs) h = (f v h.0, args_map Old More f args vs h.1)
 args_map Old More f (kind ∷ args) (v ∷ vs) h = args_map Old More f args vs h
 args_map Old More f args vs h = absurd h
 
@@ -40,7 +39,7 @@ module _ (Old : ℕ → Type 0) where
 
   args_zip : (args : List Kind) (vs : List ℕ) → AllZip (WantOld Old) (map want_of args) vs → ArgsOld Old args vs
   args_zip [] [] f = tt
-  args_zip (kinds.Ref class ∷ args) (v ∷ vs) f = (f.0, args_zip args vs f.1)
+  args_zip (Ref class ∷ args) (v ∷ vs) f = (f.0, args_zip args vs f.1)
   args_zip (kind ∷ args) (v ∷ vs) f = args_zip args vs f.1
   args_zip args vs f = absurd f
 
@@ -60,9 +59,6 @@ module _ (Old : ℕ → Type 0) (null : Old 0) (Fresh : ℕ → ℕ → Type 0) 
   abbrev R : VType → Tag → ℕ → Type 0
   R = SlotIs Old Fresh own young receiver
 
-  int_slot : (o : Bool) (v : ℕ) → SlotIs Old Fresh o young receiver vtypes.Int Untagged v
-  int_slot o v = made_slot Old null Fresh own young receiver o vtypes.Int v (λ e. cc) tt
-
   rest_slots : (n : ℕ) → SlotsAre R (replicate n vtypes.Top) (replicate n Untagged) (replicate n 0)
   rest_slots zero = tt
   rest_slots (suc n) = (top_slot Old null Fresh own young receiver own, rest_slots n)
@@ -70,8 +66,8 @@ module _ (Old : ℕ → Type 0) (null : Old 0) (Fresh : ℕ → ℕ → Type 0) 
   pub args_slots : (args : List Kind) (vs : List ℕ) (n : ℕ) → length args ≤ n → ArgsOld Old args vs
       → SlotsAre R (map type_of args ++ replicate (n - length args) vtypes.Top) (replicate n Untagged) (vs ++ replicate (n - length vs) 0)
   args_slots [] [] n l h = let e : n - 0 ≡ n = omega arith in rw e (rest_slots n)
-  args_slots (kinds.Ref c ∷ args) (v ∷ vs) (suc n) l h = let e : suc n - suc (length args) ≡ n - length args = omega arith in let f : suc n - suc (length vs) ≡ n - length vs = omega arith in rw (e, f) (ref_slot Old null Fresh own young receiver own c v h.0, args_slots args vs n (omega (arith, l)) h.1)
-  args_slots (kind ∷ args) (v ∷ vs) (suc n) l h = let e : suc n - suc (length args) ≡ n - length args = omega arith in let f : suc n - suc (length vs) ≡ n - length vs = omega arith in rw (e, f) (int_slot own v, args_slots args vs n (omega (arith, l)) h)
+  args_slots (Ref c ∷ args) (v ∷ vs) (suc n) l h = let e : suc n - suc (length args) ≡ n - length args = omega arith in let f : suc n - suc (length vs) ≡ n - length vs = omega arith in rw (e, f) (ref_slot Old null Fresh own young receiver own c v h.0, args_slots args vs n (omega (arith, l)) h.1)
+  args_slots (kind ∷ args) (v ∷ vs) (suc n) l h = let e : suc n - suc (length args) ≡ n - length args = omega arith in let f : suc n - suc (length vs) ≡ n - length vs = omega arith in rw (e, f) (made_slot Old null Fresh own young receiver own vtypes.Int v (λ e. cc) tt, args_slots args vs n (omega (arith, l)) h)
   args_slots args vs n l h = absurd (first_of (assumption, omega (arith, l)))
 
 -- ---- none of them was stored
@@ -84,7 +80,7 @@ module _ (stores : Stores) where
   args_none : (args : List Kind) (vs : List ℕ) (n k : ℕ) → length args ≤ n → ArgsOld (IsStoredNowhere stores) args vs
       → SlotsFrom (λ place. IsNoStored stores) k (map type_of args ++ replicate (n - length args) vtypes.Top) (vs ++ replicate (n - length vs) 0)
   args_none [] [] n k l h = let e : n - 0 ≡ n = omega arith in rw e (rest_none n k)
-  args_none (kinds.Ref c ∷ args) (v ∷ vs) (suc n) k l h = let e : suc n - suc (length args) ≡ n - length args = omega arith in let f : suc n - suc (length vs) ≡ n - length vs = omega arith in rw (e, f) (h.0, args_none args vs n (suc k) (omega (arith, l)) h.1)
+  args_none (Ref c ∷ args) (v ∷ vs) (suc n) k l h = let e : suc n - suc (length args) ≡ n - length args = omega arith in let f : suc n - suc (length vs) ≡ n - length vs = omega arith in rw (e, f) (h.0, args_none args vs n (suc k) (omega (arith, l)) h.1)
   args_none (kind ∷ args) (v ∷ vs) (suc n) k l h = let e : suc n - suc (length args) ≡ n - length args = omega arith in let f : suc n - suc (length vs) ≡ n - length vs = omega arith in rw (e, f) (tt, args_none args vs n (suc k) (omega (arith, l)) h)
   args_none args vs n k l h = absurd (first_of (assumption, omega (arith, l)))
 
@@ -104,12 +100,6 @@ module _ (building : Building) (h : ℕ) (null : IsFinished building.w building.
       let first : slice_get called.code 0 ≡ Some b.0 = ap (λ (code : List Insn). slice_get code 0) b.2 in
       one_number called j 0 other b.0 laid at.in_code first (starts ∙ sym b.3)
 
-  entry_joined : (args : List ℕ) → IsJoined design (entry_frame number called args) called (entry_tags called)
-  entry_joined args own j other next' u at starts =
-      let parts = both_are_true (is_init called) (frozen called.class) own in
-      let zero_is : j ≡ 0 = is_first j other next' u at starts in
-      (are.those called.class parts.1 number called there refl parts.0).entered other next' u (subst (λ (i : ℕ). IsAt c.program (tags_of c) number i called other next' u) zero_is at)
-
   -- with the slots of its locals
   enters : (args : List ℕ) → ReceiverIs w next t h (builds frozen called) (entry_frame number called args).receiver
       → SlotsAre (SlotOf frozen w next t h Runs called (entry_frame number called args).receiver) (types.entry_type_frame called).locals (entry_tags called).locals (entry_frame number called args).locals
@@ -118,7 +108,8 @@ module _ (building : Building) (h : ℕ) (null : IsFinished building.w building.
   enters args receiver locals none =
       let at = method_at c marked number called there in
       land building h null false (entry_frame number called args) called at.frames at.tags (types.entry_type_frame called) (entry_tags called) there at.its_types at.its_tags at.holds.types.entry at.holds.sound.entry
-      (entry_joined args)
+      (λ own j other next' u at starts. let parts = both_are_true (is_init called) (frozen called.class) own in
+      (are.those called.class parts.1 number called there refl parts.0).entered other next' u (subst (λ (i : ℕ). IsAt c.program (tags_of c) number i called other next' u) (is_first j other next' u at starts) at))
       (record {
         put = λ j other next u at starts. first_plain c marked owning owns number j called other next u at (is_first j other next u at starts);
         arrays = λ j other next u at starts. tt;

@@ -1,14 +1,13 @@
 -- Frames and threads that an event does not touch stand as they did in the world that it leaves.
 use Rattle.std.proofs.Common.{◌≡◌, ℕ, ◌-◌, ◌<◌, ◌≤◌, inl, inr, Bool, true, false, List, [], ◌∷◌, length, drop, Option, Some, None, refl, sym, ap, ◌∙◌, subst, arith, ◌==◌, if◌then◌else◌}
-use Rattle.jvm_types.specs.declared.{program.MethodInfo.MethodInfo, typing.VType.VType}
+use Rattle.jvm_types.specs.declared.{program.MethodInfo.MethodInfo, typing.VType.{VType, TheVariants.New}}
 use Rattle.checked_program.specs.declared.tag.Tag.{Tag}
 use Rattle.machine_types.specs.Construction.{if_so, builds, makes_frozen, SlotsAre, BuilderTurn, Runs, WaitsFor, Throws, FreshAtCall, IsFresh, ReceiverIs, SlotOf, StackWith, StackIs, puts_owned, made_world, turn_by, AfterKeeps, TowardKeeps, PhaseKeeps}
 use Rattle.machine_types.specs.{Elision.put_back, Frames.pushed, Standing.row_at, Structure.operands_in, Threads.{Frame, Attempt}}
 use Rattle.machine_types.specs.{Worlds.{Item, Header, Made, Begun, Unstored, Builder, builder, World, IsFinished, IsOwnOrFinished}, declared.phase.{After.After, Phase.Phase, Toward.Toward}}
 use Rattle.laws_threads.proofs.Tests.{either_way}
-use Rattle.laws_objects.proofs.{Buildings.{Building, in_world, in_later, FrameIn, WaitIn, BelowIn, FramesIn, MadeIn, PhaseIn, TriesIn}, Slots.{slots_map, slot_later}}
+use Rattle.laws_objects.proofs.{Buildings.{Building, in_world, in_later, FrameIn, WaitIn, BelowIn, FramesIn, PhaseIn, TriesIn}, Slots.{slots_map, slot_later}}
 use Rattle.laws_objects.proofs.WorldChanges.{given_here, given_keeps, given_none, given_gone, given_back, given_none_back}
-use Rattle.jvm_types.specs.declared.typing.VType.TheVariants as types
 use Rattle.machine_types.specs.declared.phase.After.TheVariants as afters
 use Rattle.machine_types.specs.declared.phase.Phase.TheVariants as phases
 use Rattle.machine_types.specs.declared.phase.Toward.TheVariants as towards
@@ -27,7 +26,7 @@ module _ (building : Building) (z : World) (more : ℕ) (old : (v : ℕ) → IsF
   open building use {c, frozen, owning, w, next, t}
 
   at_call_kept : (h receiver : ℕ) (begun : Option (VType × ℕ)) → KeepsAt w z t h → (q v : ℕ) → FreshAtCall w t h receiver begun q v → FreshAtCall z t h receiver begun q v
-  at_call_kept h receiver (Some (types.New r, class)) keeps q v f =
+  at_call_kept h receiver (Some (New r, class)) keeps q v f =
       either_way (λ (b : Bool). if_so b (v ≡ receiver) (w v ≡ Some (builder t h (Made q))) → if_so b (v ≡ receiver) (z v ≡ Some (builder t h (Made q)))) (q == r) (λ e. e) (keeps v (Made q)) f
   at_call_kept h receiver begun keeps q v f = keeps v (Made q) f
 
@@ -112,17 +111,14 @@ made_old w z next more a t height None old grows v o =
 module _ (building : Building) (z : World) (more : ℕ) (grows : building.next ≤ more) (old : (v : ℕ) → IsFinished building.w building.next v → IsFinished z more v) (keeps : (h : ℕ) → KeepsAt building.w z building.t h) (known : (v : ℕ) → IsOwnOrFinished building.w building.next building.t v → IsOwnOrFinished z more building.t v) where
   open building use {w, next, t}
 
-  made_kept : (a height : ℕ) (fs : List Frame) → MadeIn building a height fs → MadeIn (in_later building z more) a height fs
-  made_kept a height fs k = record {
+  pub phase_frames_kept : (phase : Phase) (fs : List Frame) → PhaseIn building phase fs → PhaseIn (in_later building z more) phase fs
+  phase_frames_kept (phases.Made a word) fs k = record {
     item = k.item;
     not_begun = k.not_begun;
-    now = keeps height a Header k.now;
-    keep = frames_kept (in_world building (made_world w a t height k.item)) (made_world z a t height k.item) more (made_old w z next more a t height k.item old grows) Runs (pushed a fs)
-        (λ h l. made_keeps w z t h a height k.item (keeps h)) k.keep;
+    now = keeps (length fs - 1) a Header k.now;
+    keep = frames_kept (in_world building (made_world w a t (length fs - 1) k.item)) (made_world z a t (length fs - 1) k.item) more (made_old w z next more a t (length fs - 1) k.item old grows) Runs (pushed a fs)
+        (λ h l. made_keeps w z t h a (length fs - 1) k.item (keeps h)) k.keep;
   }
-
-  pub phase_frames_kept : (phase : Phase) (fs : List Frame) → PhaseIn building phase fs → PhaseIn (in_later building z more) phase fs
-  phase_frames_kept (phases.Made a word) fs k = made_kept a (length fs - 1) fs k
   phase_frames_kept phase fs k = frames_kept building z more old (turn_by (operands_in phase)) fs (λ h l. keeps h) k
 
   after_kept : (a : After) → AfterKeeps w next a → AfterKeeps z more a
@@ -135,12 +131,7 @@ module _ (building : Building) (z : World) (more : ℕ) (grows : building.next �
 
   pub phase_kept : (phase : Phase) → PhaseKeeps w next t phase → PhaseKeeps z more t phase
   phase_kept (phases.Throw x class) k = old x k
-  phase_kept (phases.Leave m a) k = (known m k.0, after_kept a k.1)
-  phase_kept (phases.Grow m toward) k = (known m k.0, toward_kept toward k.1)
-  phase_kept (phases.FlatOut m a) k = (known m k.0, after_kept a k.1)
-  phase_kept (phases.Own m r toward) k = (known m k.0, toward_kept toward k.1)
-  phase_kept (phases.FatIn m r toward) k = (known m k.0, toward_kept toward k.1)
-  phase_kept phase k = first_of (assumption, search known)
+  phase_kept phase k = first_of (assumption, search (known, after_kept, toward_kept))
 
   pub attempt_kept : (fs : List Frame) (o : Option Attempt) → TriesIn building fs o → TriesIn (in_later building z more) fs o
   attempt_kept fs None k = tt

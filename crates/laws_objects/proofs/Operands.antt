@@ -1,17 +1,13 @@
 -- Values that an instruction takes as references to objects are finished: an `<init>` of a frozen class gives its `this` to none.
-use Rattle.std.proofs.Common.{◌≡◌, ◌≢◌, ℕ, zero, suc, ◌<◌, Bool, true, false, not, ◌&&◌, List, [], ◌∷◌, length, Option, Some, None, refl, subst, sym, arith, ◌==◌, slice_get, slice_index_or}
+use Rattle.std.proofs.Common.{◌≡◌, ◌≢◌, ℕ, zero, suc, ◌<◌, Bool, true, false, not, ◌&&◌, List, [], ◌∷◌, length, Option, Some, refl, subst, sym, arith, ◌==◌, slice_get, slice_index_or}
 use Rattle.std.{specs.List.AllByRecursion, proofs.lemmas.Bool.or_parts}
 use Rattle.lists.proofs.TestLaws.{is_true}
-use Rattle.jvm_types.specs.{CodeTable.{put_row, row}, Types.is_below, Verifying.{suits, some_taken}, declared.{code.Op.Op, op_row.Want.Want}}
-use Rattle.jvm_types.specs.declared.{op_row.Want.TheVariants.{AnyValue, AnObject}, program.{FieldInfo.FieldInfo, MethodInfo.MethodInfo, Program.Program}}
-use Rattle.jvm_types.specs.declared.{program.Target.Target, typing.VType.VType}
+use Rattle.jvm_types.specs.{CodeTable.{put_row, row}, Types.is_below, Verifying.{suits, some_taken}, declared.{code.Op.Op, op_row.Want.{Want, TheVariants.{AnyValue, AnObject}}}}
+use Rattle.jvm_types.specs.declared.{program.{FieldInfo.FieldInfo, MethodInfo.MethodInfo, Program.Program, Target.{Target, TheVariants.{Field, Init}}}, typing.VType.{VType, TheVariants.{Null, Ref}}}
 use Rattle.checked_program.specs.{Colours.is_read_of, FrozenPlaces.may_take, OwnedArrays.may_take_array, declared.tag.Tag.{Tag, TheVariants.{Untagged, This}}}
-use Rattle.machine_types.specs.{Construction.{puts_owned, builds, makes_frozen, SlotByType, SlotIs, SlotsAre, Runs, IsFresh}, Standing.{Standing, row_at}, Threads.Frame}
-use Rattle.machine_types.specs.Worlds.{IsFinished}
-use Rattle.laws_objects.proofs.{Buildings.{Design, Building, FrameIn}, KeptFrames.plain_stack, Landing.inside_at, Moves.{Suit, suit_at}, Slots.plainly}
+use Rattle.machine_types.specs.{Construction.{puts_owned, builds, makes_frozen, SlotByType, SlotIs, SlotsAre, Runs, IsFresh}, Standing.row_at, Threads.Frame, Worlds.IsFinished}
+use Rattle.laws_objects.proofs.{Buildings.{Building, FrameIn}, KeptFrames.plain_stack, Landing.inside_at, Moves.{Suit, suit_at}, Slots.plainly}
 use Rattle.jvm_types.specs.declared.code.Op.TheVariants as ops
-use Rattle.jvm_types.specs.declared.program.Target.TheVariants as targets
-use Rattle.jvm_types.specs.declared.typing.VType.TheVariants as types
 
 -- ---- what is taken
 
@@ -33,12 +29,12 @@ TakesNoThis (want ∷ wants) (g ∷ gs) = NoThis want g × TakesNoThis wants gs
 TakesNoThis wants gs = Unit {0}
 
 module _ (m : MethodInfo) (Old : ℕ → Type 0) (null : Old 0) (Fresh : ℕ → ℕ → Type 0) (own : Bool) (young : ℕ → Bool) (receiver : ℕ) where
-  ref_old : (u : VType) (class v : ℕ) → is_below u (types.Ref class) ≡ true → SlotByType Old Fresh young u v → Old v
-  ref_old types.Null class v b h = subst Old (sym h) null
-  ref_old (types.Ref d) class v b h = h
+  ref_old : (u : VType) (class v : ℕ) → is_below u (Ref class) ≡ true → SlotByType Old Fresh young u v → Old v
+  ref_old Null class v b h = subst Old (sym h) null
+  ref_old (Ref d) class v b h = h
   ref_old u class v b h = absurd (cc)
 
-  object_old : (o : Bool) (u : VType) (g : Tag) (class v : ℕ) → (o ≡ true → g ≢ This) → is_below u (types.Ref class) ≡ true → SlotIs Old Fresh o young receiver u g v → Old v
+  object_old : (o : Bool) (u : VType) (g : Tag) (class v : ℕ) → (o ≡ true → g ≢ This) → is_below u (Ref class) ≡ true → SlotIs Old Fresh o young receiver u g v → Old v
   object_old true u g class v n b h = ref_old u class v b (plainly Old Fresh young receiver u g v (n refl) h).1
   object_old false u g class v n b h = ref_old u class v b h
 
@@ -84,10 +80,9 @@ module _ (p : Program) (m : MethodInfo) (pc class : ℕ) where
   none_at (want ∷ wants) a (suc k) = none_at wants a.1 k
 
   put_free : (f : Option FieldInfo) (o : Bool) (k : ℕ) → object_at (put_row f).takes k ≡ true → ((k == 1) && o) ≡ false
-  put_free None o k e = absurd (cc)
   put_free (Some f) o zero e = refl
   put_free (Some f) o (suc zero) e = absurd (cc)
-  put_free (Some f) o (suc (suc k)) e = absurd (cc)
+  put_free f o k e = absurd (cc)
 
   -- what is taken as an object has no tag of `this`, but by `getfield`, and is no array of an owned field, but by four instructions
   pub object_free : (op : Op) (target : Target) (k : ℕ) → object_at (row p m pc target op).takes k ≡ true
@@ -99,14 +94,10 @@ module _ (p : Program) (m : MethodInfo) (pc class : ℕ) where
   object_free ops.Swap target k e = absurd (let z = none_at (AnyValue ∷ AnyValue ∷ []) (refl, (refl, tt)) k in cc)
   object_free ops.Pop target k e = absurd (let z = none_at (AnyValue ∷ []) (refl, tt) k in cc)
   object_free ops.Pop2 target k e = absurd (let z = none_at (AnyValue ∷ AnyValue ∷ []) (refl, (refl, tt)) k in cc)
-  object_free (ops.Getfield i) target k e = (λ g. absurd (cc), λ g. absurd (cc))
-  object_free (ops.Putfield i) (targets.Field f) k e = (λ g. put_free (slice_get p.fields f) _ k e, λ g. refl)
-  object_free (ops.Invokespecial i) (targets.Init started) zero e = absurd (cc)
-  object_free (ops.Invokespecial i) (targets.Init started) (suc k) e = absurd (cc)
-  object_free ops.Iaload target k e = (λ g. refl, λ g. absurd (cc))
-  object_free ops.Iastore target k e = (λ g. refl, λ g. absurd (cc))
-  object_free ops.Arraylength target k e = (λ g. refl, λ g. absurd (cc))
-  object_free op target k e = (λ g. refl, λ g. refl)
+  object_free (ops.Putfield i) (Field f) k e = (λ g. put_free (slice_get p.fields f) _ k e, λ g. refl)
+  object_free (ops.Invokespecial i) (Init started) zero e = absurd (cc)
+  object_free (ops.Invokespecial i) (Init started) (suc k) e = absurd (cc)
+  object_free op target k e = (λ g. cc, λ g. cc)
 
 -- a `getfield` is among them
 pub no_getfield : (op : Op) → takes_any op ≡ false → is_getfield op ≡ false
@@ -125,15 +116,6 @@ takes_no_this (want ∷ wants) (g ∷ gs) f = (one want (λ e. f 0 (omega arith)
     one want f = tt
 takes_no_this wants gs f = tt
 
-module _ (design : Design) where
-  open design use {c, frozen}
-
-  own_takes_no_this : (f : Frame) (k : Standing c f) → is_getfield k.insn.op ≡ false → builds frozen k.method ≡ true → TakesNoThis (row_at c f k).takes k.tags.stack
-  own_takes_no_this f k get own =
-      takes_no_this (row_at c f k).takes k.tags.stack
-      (λ n l e this. (let may = (inside_at design f k own).taken k.number k.insn k.target k.tags k.at n l this in
-      let free = (object_free c.program k.method k.insn.pc k.method.class k.insn.op k.target n e).0 get in cc))
-
 -- so each object that is taken is finished
 module _ (building : Building) where
   open building use {design, c, marked, frozen, owning, w, next, t}
@@ -141,4 +123,6 @@ module _ (building : Building) where
   pub takes_old : (h : ℕ) (f : Frame) (k : FrameIn building h Runs f) → IsFinished w next 0 → is_getfield k.stands.insn.op ≡ false → puts_owned owning.owned k.stands.insn.op k.stands.target ≡ false → TakenOld (IsFinished w next) (row_at c f k.stands).takes f.stack
   takes_old h f k null get plain =
       taken_old k.stands.method (IsFinished w next) null (IsFresh w t h Runs) (builds frozen k.stands.method) (makes_frozen frozen k.stands.method) f.receiver (row_at c f k.stands).takes k.stands.types.stack k.stands.tags.stack f.stack
-      (λ own. own_takes_no_this design f k.stands get own) (suit_at c marked f k.stands) (plain_stack building h f k plain)
+      (λ own. takes_no_this (row_at c f k.stands).takes k.stands.tags.stack
+      (λ n l e this. (let may = (inside_at design f k.stands own).taken k.stands.number k.stands.insn k.stands.target k.stands.tags k.stands.at n l this in
+      let free = (object_free c.program k.stands.method k.stands.insn.pc k.stands.method.class k.stands.insn.op k.stands.target n e).0 get in cc))) (suit_at c marked f k.stands) (plain_stack building h f k plain)

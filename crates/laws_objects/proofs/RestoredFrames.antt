@@ -4,10 +4,9 @@ use Rattle.std.proofs.lemmas.Bool.{ne_eqb}
 use Rattle.lists.proofs.ListLaws.{same_some}
 use Rattle.jvm_types.specs.declared.{program.MethodInfo.MethodInfo, typing.VType.VType}
 use Rattle.checked_program.specs.{MarkedProgram.MarkedProgram, declared.tag.Tag.Tag}
-use Rattle.machine_types.specs.Construction.{puts_owned, builds, makes_frozen, if_so, SlotByType, OwnSlot, SlotIs, SlotsAre, StackWith, StackIs, BuilderTurn, Runs, WaitsFor, Throws, FreshAtCall, IsFresh, ReceiverIs, SlotOf, IsNoStored, IsNoStoredLocal, IsArraySlot, SlotsFrom, ArraysIn}
-use Rattle.machine_types.specs.Construction.{made_world, turn_by}
-use Rattle.machine_types.specs.{Elision.put_back, Frames.pushed, OwnedPlaces.{Stores, with_stored, IsStoredAt, IsStoredNowhere}, Standing.{Operands, Thrown, row_at}, Structure.operands_in, Threads.{Frame, Attempt, Thread}}
-use Rattle.machine_types.specs.{Worlds.{Item, Header, Made, Begun, Unstored, Builder, builder, World, IsFinished}, declared.phase.Phase.Phase}
+use Rattle.machine_types.specs.Construction.{puts_owned, builds, makes_frozen, if_so, SlotByType, OwnSlot, SlotIs, SlotsAre, StackWith, StackIs, BuilderTurn, Runs, WaitsFor, Throws, FreshAtCall, IsFresh, ReceiverIs, SlotOf, IsNoStored, IsNoStoredLocal, IsArraySlot, SlotsFrom, ArraysIn, made_world, turn_by}
+use Rattle.machine_types.specs.{Elision.put_back, Frames.pushed, OwnedPlaces.{Stores, with_stored, IsStoredAt, IsStoredNowhere}, Standing.{Operands, Thrown, row_at}, Structure.operands_in}
+use Rattle.machine_types.specs.{Threads.{Frame, Attempt, Thread}, Worlds.{Item, Header, Made, Begun, Unstored, Builder, builder, World, IsFinished}, declared.phase.Phase.Phase}
 use Rattle.laws_threads.proofs.Tests.{either_way}
 use Rattle.laws_objects.proofs.{Buildings.{Building, in_world, with_stores, FrameIn, WaitIn, BelowIn, FramesIn, PhaseIn, TriesIn, ThreadIn}, Slots.{slots_map, slot_later, plainly, not_this}}
 use Rattle.laws_objects.proofs.WorldChanges.{none_some, given_keeps, finished_there}
@@ -58,9 +57,7 @@ module _ (stores : Stores) (new : NewArray stores) where
     clear_type : (t : VType) (v : ℕ) → SlotByType Apart Fresh young t v → IsSure Fresh t → Apart v
     clear_type types.Null v h s = subst Apart (sym h) zero_apart
     clear_type (types.New q) v h s = (elim (young q) as (λ (b : Bool). if_so b (Fresh q v) (Apart v) → Apart v) [ true ↦ λ h. s v h | false ↦ λ h. h ]) h
-    clear_type types.Int v h s = absurd s
-    clear_type types.Top v h s = absurd s
-    clear_type t v h s = h
+    clear_type t v h s = assumption
 
     clear_slot : (own : Bool) (t : VType) (g : Tag) (v : ℕ) → SlotIs Apart Fresh own young receiver t g v → IsSure Fresh t → Apart v
     clear_slot false t g v h s = clear_type t v h s

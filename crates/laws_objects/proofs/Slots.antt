@@ -140,24 +140,17 @@ module _ (Old : ℕ → Type 0) (null : Old 0) (Fresh : ℕ → ℕ → Type 0) 
   top_slot false = tt
 
   type_edge : (t u : VType) (v : ℕ) → is_below t u ≡ true → SlotByType Old Fresh young t v → SlotByType Old Fresh young u v
-  type_edge t types.Top v b h = tt
-  type_edge types.Int types.Int v b h = tt
-  type_edge types.Null types.Null v b h = h
   type_edge types.Null (types.Ref c) v b h = subst Old (sym h) null
-  type_edge (types.Ref c) (types.Ref d) v b h = h
-  type_edge types.This types.This v b h = h
   type_edge (types.New p) (types.New q) v b h = subst (λ (r : ℕ). if_so (young r) (Fresh r v) (Old v)) (grind (arith, nat_tests, b)) h
-  type_edge t u v b h = absurd (cc)
+  type_edge t types.Top v b h = tt
+  type_edge t u v b h = first_of (assumption, cc)
 
-  own_edge : (t u : VType) (g k : Tag) (v : ℕ) → is_below t u ≡ true → IsTagBelow g k → (g ≡ This → k ≡ This) → OwnSlot Old Fresh young receiver t g v → OwnSlot Old Fresh young receiver u k v
-  own_edge t u g k v b kept keeps h = elim (not_this g) [
-    | inl e ↦ rw (keeps e) (subst (λ (x : Tag). OwnSlot Old Fresh young receiver t x v) e h)
+  slot_edge : (o : Bool) (t u : VType) (g k : Tag) (v : ℕ) → is_below t u ≡ true → IsTagBelow g k → (o ≡ true → g ≡ This → k ≡ This) → SlotIs Old Fresh o young receiver t g v → SlotIs Old Fresh o young receiver u k v
+  slot_edge true t u g k v b kept keeps h = elim (not_this g) [
+    | inl e ↦ rw (keeps refl e) (subst (λ (x : Tag). OwnSlot Old Fresh young receiver t x v) e h)
     | inr n ↦ let p = plainly Old Fresh young receiver t g v n h in
         plain_slot Old Fresh young receiver u k v (λ e. n ((subst (λ (x : Tag). IsTagBelow g x) e kept))) (other_above t u b p.0) (type_edge t u v b p.1)
   ]
-
-  slot_edge : (o : Bool) (t u : VType) (g k : Tag) (v : ℕ) → is_below t u ≡ true → IsTagBelow g k → (o ≡ true → g ≡ This → k ≡ This) → SlotIs Old Fresh o young receiver t g v → SlotIs Old Fresh o young receiver u k v
-  slot_edge true t u g k v b kept keeps h = own_edge t u g k v b kept (keeps refl) h
   slot_edge false t u g k v b kept keeps h = type_edge t u v b h
 
   pub slots_edge : (ts us : List VType) (gs ks : List Tag) (vs : List ℕ) → all_pairs is_below ts us ≡ true → AreTagsBelow gs ks → length ks ≡ length us → (own ≡ true → KeepThis gs ks) → SlotsAre R ts gs vs → SlotsAre R us ks vs
@@ -181,12 +174,12 @@ module _ (Old : ℕ → Type 0) (null : Old 0) (Fresh : ℕ → ℕ → Type 0) 
   abbrev pub StartFine : VType → Type 0
   StartFine o = (v : ℕ) → SlotByType Old Fresh young o v → Old v
 
-  type_started : (o : VType) (class : ℕ) (t : VType) (v : ℕ) → StartFine o → SlotByType Old Fresh young t v → SlotByType Old Fresh young (if same_type o t then types.Ref class else t) v
-  type_started o class t v fine h =
-      elim (cases_Bool (same_type o t)) [ inl e ↦ rw e (fine v (subst (λ (x : VType). SlotByType Old Fresh young x v) (sym (same_types o t e)) h)) | inr e ↦ rw e h ]
+  abbrev pub StartOk : Bool → VType → Type 0
+  StartOk true o = (o ≡ types.This) ⊎ StartFine o
+  StartOk false o = StartFine o
 
-  own_started : (o : VType) (class : ℕ) (t : VType) (g : Tag) (v : ℕ) → ((o ≡ types.This) ⊎ StartFine o) → OwnSlot Old Fresh young receiver t g v → OwnSlot Old Fresh young receiver (if same_type o t then types.Ref class else t) g v
-  own_started o class t g v fine h = elim (not_this g) [
+  slot_started : (b : Bool) (o : VType) (class : ℕ) (t : VType) (g : Tag) (v : ℕ) → StartOk b o → SlotIs Old Fresh b young receiver t g v → SlotIs Old Fresh b young receiver (if same_type o t then types.Ref class else t) g v
+  slot_started true o class t g v fine h = elim (not_this g) [
     | inl e ↦ rw e (subst (λ (x : Tag). OwnSlot Old Fresh young receiver t x v) e h)
     | inr n ↦ start (same_type o t) refl n (plainly Old Fresh young receiver t g v n h) fine
   ]
@@ -195,14 +188,8 @@ module _ (Old : ℕ → Type 0) (null : Old 0) (Fresh : ℕ → ℕ → Type 0) 
       start true e n p (inl is) = absurd (p.0 (sym (same_types o t e) ∙ is))
       start true e n p (inr f) = plain_slot Old Fresh young receiver (types.Ref class) g v n (λ x. cc) (f v (subst (λ (x : VType). SlotByType Old Fresh young x v) (sym (same_types o t e)) p.1))
       start false e n p f = plain_slot Old Fresh young receiver t g v n p.0 p.1
-
-  abbrev pub StartOk : Bool → VType → Type 0
-  StartOk true o = (o ≡ types.This) ⊎ StartFine o
-  StartOk false o = StartFine o
-
-  slot_started : (b : Bool) (o : VType) (class : ℕ) (t : VType) (g : Tag) (v : ℕ) → StartOk b o → SlotIs Old Fresh b young receiver t g v → SlotIs Old Fresh b young receiver (if same_type o t then types.Ref class else t) g v
-  slot_started true o class t g v fine h = own_started o class t g v fine h
-  slot_started false o class t g v fine h = type_started o class t v fine h
+  slot_started false o class t g v fine h =
+      elim (cases_Bool (same_type o t)) [ inl e ↦ rw e (fine v (subst (λ (x : VType). SlotByType Old Fresh young x v) (sym (same_types o t e)) h)) | inr e ↦ rw e h ]
 
   pub slots_started : (o : VType) (class : ℕ) (ts : List VType) (gs : List Tag) (vs : List ℕ) → StartOk own o → SlotsAre R ts gs vs → SlotsAre R (initialised o class ts) gs vs
   slots_started o class [] [] [] fine h = tt

@@ -1,16 +1,13 @@
 -- What is lost, or built by another thread, is in no slot of a thread that an instruction may use, and in no place.
 use Rattle.std.{proofs.Common.{◌≡◌, ◌≢◌, inl, inr, ℕ, Bool, true, false, List, [], ◌∷◌, length, Some, None, refl, sym, ◌∙◌, subst, arith}, specs.List.AllZip}
-use Rattle.jvm_types.specs.{ProgramInvariant.words_of, Types.TypeFrame, declared.{program.Kind.Kind, typing.VType.VType}}
+use Rattle.jvm_types.specs.{ProgramInvariant.words_of, Types.TypeFrame, declared.{program.Kind.{Kind, TheVariants.Ref}, typing.VType.{VType, TheVariants.{Int, New, Null}}}}
 use Rattle.checked_program.specs.{MarkedProgram.{MarkedProgram, IsMarked}, declared.tag.Tag.{Tag}}
 use Rattle.machine_types.specs.Construction.{Owning, puts_owned, if_so, builds, makes_frozen, StackWith, SlotByType, OwnSlot, SlotIs, SlotsAre, Runs, IsFresh, ReceiverIs, FrameKeeps, KindKeeps, PlacesKeep}
-use Rattle.machine_types.specs.{PlainMemory.Object, Standing.Standing, Structure.IsAs, Threads.{Frame, Thread}, Worlds.{Item, Lost, Made, Begun, Unstored, Builder, builder, World, IsFinished, IsWorld}}
-use Rattle.machine_types.specs.declared.phase.Phase.{Phase}
+use Rattle.machine_types.specs.{PlainMemory.Object, Standing.Standing, Structure.IsAs, Threads.{Frame, Thread}}
+use Rattle.machine_types.specs.{Worlds.{Item, Lost, Made, Begun, Unstored, Builder, builder, World, IsFinished, IsWorld}, declared.phase.Phase.{Phase, TheVariants.Run}}
 use Rattle.laws_threads.proofs.{FramePlaces.one_standing_law, Tests.either_way}
 use Rattle.laws_objects.{specs.UnfinishedObjects.{IsOther, UsesNot, KindHasNot, PlacesHaveNot}, proofs.Buildings.{Building, in_world, FramesIn, PhaseIn, ThreadIn, first_finished}}
 use Rattle.laws_objects.proofs.{Slots.{not_this, plainly}, WorldChanges.none_some}
-use Rattle.jvm_types.specs.declared.program.Kind.TheVariants as kinds
-use Rattle.jvm_types.specs.declared.typing.VType.TheVariants as types
-use Rattle.machine_types.specs.declared.phase.Phase.TheVariants as phases
 
 -- the thread doesn't build it, as it sees the world, and it is not finished
 pub record IsStrange (now : World) (t v : ℕ) : Type 0 where
@@ -31,27 +28,23 @@ module _ (now : World) (next t v : ℕ) (strange : IsStrange now t v) (null : Is
   -- ---- slots
 
   other_so : (u : VType) (word : ℕ) → word ≢ v → IsOther v u word
-  other_so types.Int word n = tt
-  other_so types.Top word n = tt
-  other_so u word n = n
+  other_so Int word n = tt
+  other_so u word n = assumption
 
   module _ (h : ℕ) (own : Bool) (young : ℕ → Bool) (receiver : ℕ) (receives : ReceiverIs now next t h own receiver) where
     type_other : (u : VType) (word : ℕ) → SlotByType (IsFinished now next) (IsFresh now t h Runs) young u word → IsOther v u word
-    type_other types.Null word s = λ e. not_finished 0 null (sym s ∙ e)
-    type_other (types.New pc) word s =
+    type_other Null word s = λ e. not_finished 0 null (sym s ∙ e)
+    type_other (New pc) word s =
         either_way (λ (y : Bool). if_so y (now word ≡ Some (builder t h (Made pc))) (IsFinished now next word) → word ≢ v) (young pc) (not_built h word (Made pc) (λ s. cc)) (not_finished word) s
     type_other u word s = first_of (assumption, search not_finished)
 
-    own_other : (ours : own ≡ true) (u : VType) (g : Tag) (word : ℕ) → OwnSlot (IsFinished now next) (IsFresh now t h Runs) young receiver u g word → IsOther v u word
-    own_other ours u g word s = elim (not_this g) [
+    slot_other : (b : Bool) → own ≡ b → (u : VType) (g : Tag) (word : ℕ) → SlotIs (IsFinished now next) (IsFresh now t h Runs) b young receiver u g word → IsOther v u word
+    slot_other true ours u g word s = elim (not_this g) [
       | inl e ↦ let mine : now receiver ≡ Some (builder t h Begun) = subst (λ (b : Bool). ReceiverIs now next t h b receiver) ours receives in
           let same : word ≡ receiver = subst (λ (x : Tag). OwnSlot (IsFinished now next) (IsFresh now t h Runs) young receiver u x word) e s in
           other_so u word (λ e. not_built h receiver Begun (λ z. cc) mine (sym same ∙ e))
       | inr n ↦ type_other u word (plainly (IsFinished now next) (IsFresh now t h Runs) young receiver u g word n s).1
     ]
-
-    slot_other : (b : Bool) → own ≡ b → (u : VType) (g : Tag) (word : ℕ) → SlotIs (IsFinished now next) (IsFresh now t h Runs) b young receiver u g word → IsOther v u word
-    slot_other true e u g word s = own_other e u g word s
     slot_other false e u g word s = type_other u word s
 
     slots_other : (us : List VType) (gs : List Tag) (words : List ℕ) → SlotsAre (SlotIs (IsFinished now next) (IsFresh now t h Runs) own young receiver) us gs words → AllZip (IsOther v) us words
@@ -83,7 +76,7 @@ module _ (building : Building) where
 
   pub uses_not : (v : ℕ) (was : Phase) (x : Thread) (k : ThreadIn building was x) → IsWorld w (words_of c.program) next → IsAs x.phase was → IsStrange k.now t v → UsesNot c v x
   uses_not v was x k world is_as strange run f below frames stands =
-      let is_run : was ≡ phases.Run = subst (λ (p : Phase). IsAs p was) run is_as in
+      let is_run : was ≡ Run = subst (λ (p : Phase). IsAs p was) run is_as in
       let seen : Building = in_world building k.now in
       let kept : FramesIn seen Runs x.frames = subst (λ (p : Phase). PhaseIn seen p x.frames) is_run k.frames in
       let top : FramesIn seen Runs (f ∷ below) = subst (FramesIn seen Runs) frames kept in
@@ -92,7 +85,7 @@ module _ (building : Building) where
 -- ---- places
 
 kind_has_not : (w : World) (next v : ℕ) (b : Builder) → w v ≡ Some b → (kind : Kind) (word : ℕ) → KindKeeps w next kind word → KindHasNot v kind word
-kind_has_not w next v b e (kinds.Ref class) word k = λ s. none_some (w v) b (subst (λ (u : ℕ). w u ≡ None) s k.1) e
+kind_has_not w next v b e (Ref class) word k = λ s. none_some (w v) b (subst (λ (u : ℕ). w u ≡ None) s k.1) e
 kind_has_not w next v b e kind word k = tt
 
 pub places_have_not : (c : MarkedProgram) (owning : Owning) (w : World) (next v : ℕ) (objects : List Object) (words : List ℕ) (b : Builder) → w v ≡ Some b → PlacesKeep c owning w next objects words → PlacesHaveNot c v objects words

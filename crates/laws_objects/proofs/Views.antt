@@ -2,8 +2,7 @@
 use Rattle.std.proofs.Common.{◌≡◌, ◌≢◌, ℕ, ◌≤◌, ◌<◌, ◌⊎◌, inl, inr, Bool, Option, Some, None, refl, sym, ap, ◌∙◌, subst, arith, ◌==◌, if◌then◌else◌}
 use Rattle.std.proofs.lemmas.Bool.{cases_Bool, true_from_ne_false, eq-eqb, eqb-true, ne_eqb, eqb-false}
 use Rattle.jvm_types.specs.ProgramInvariant.{words_of}
-use Rattle.machine_types.specs.{Threads.{Attempt, Thread}, Worlds.{Lost, Builder, builder, World, IsFinished, IsOwnOrFinished, IsWorld, IsViewOf, GoesOn}}
-use Rattle.machine_types.specs.declared.phase.Phase.{Phase}
+use Rattle.machine_types.specs.{Threads.{Attempt, Thread}, Worlds.{Lost, Builder, builder, World, IsFinished, IsOwnOrFinished, IsWorld, IsViewOf, GoesOn}, declared.phase.Phase.Phase}
 use Rattle.laws_objects.proofs.{Buildings.{Building, in_world, in_later, ThreadIn}, KeptFrames.{KeepsAt, phase_frames_kept, phase_kept, attempt_kept}, WorldChanges.none_some}
 
 -- ---- whether a thread builds an object
@@ -15,14 +14,13 @@ abbrev pub IsNoneOf : World → (u v : ℕ) → Type 0
 IsNoneOf w u v = (b : Builder) → w v ≡ Some b → b.thread ≢ u
 
 pub own_or_not : (w : World) (u v : ℕ) → IsOwnIn w u v ⊎ IsNoneOf w u v
-own_or_not w u v = by_was (w v) refl
-  where
-    by_was : (o : Option Builder) → w v ≡ o → IsOwnIn w u v ⊎ IsNoneOf w u v
-    by_was None e = inr (λ b f. absurd (none_some (w v) b e f))
-    by_was (Some b) e = elim (cases_Bool (b.thread == u)) [
-      | inl t ↦ inl (b, e, eqb-true b.thread u t)
-      | inr t ↦ inr (λ d f s. eqb-false b.thread u t (let same : b ≡ d = cc in ap (λ (x : Builder). x.thread) same ∙ s))
-    ]
+own_or_not w u v = (elim (w v) as (λ (o : Option Builder). w v ≡ o → IsOwnIn w u v ⊎ IsNoneOf w u v) [
+  | None ↦ λ e. inr (λ b f. absurd (none_some (w v) b e f))
+  | Some b ↦ λ e. elim (cases_Bool (b.thread == u)) [
+    | inl t ↦ inl (b, e, eqb-true b.thread u t)
+    | inr t ↦ inr (λ d f s. eqb-false b.thread u t (let same : b ≡ d = cc in ap (λ (x : Builder). x.thread) same ∙ s))
+  ]
+]) refl
 
 -- a number below the next word is known to a thread or another builds it
 pub known_on : (w later : World) (next more t u : ℕ) → GoesOn w later next more t 0 → (v : ℕ) → IsOwnOrFinished w next u v → IsOwnOrFinished later more u v
@@ -101,12 +99,6 @@ module _ (building : Building) (later : World) (more t : ℕ) (goes : GoesOn bui
         both v x d n (inr k) (inl l) e f = absurd (mixed x v d l k f e)
         both v x d n (inr k) (inr l) e f = b.one v x d n (sym (merged_rest v k) ∙ e) (sym (merged_rest x l) ∙ f)
 
-    merged_keeps : (h : ℕ) → KeepsAt now (merged u w now later) u h
-    merged_keeps h v x e = merged_by v (λ (o : Option Builder). o ≡ Some (builder u h x)) (λ k. e) (λ n. absurd (n (builder u h x) (sym (view.others v n) ∙ e) refl))
-
-    merged_old : (v : ℕ) → IsFinished now next v → IsFinished (merged u w now later) more v
-    merged_old v k = ((let l = k.0 in let g = goes.grows in omega (arith, l, g)), merged_by v (λ (o : Option Builder). o ≡ None) (λ o. k.1) (λ n. goes.finished v (k.0, sym (view.others v n) ∙ k.1)))
-
     merged_known : (v : ℕ) → IsOwnOrFinished now next u v → IsOwnOrFinished (merged u w now later) more u v
     merged_known v k = (
       (let l = k.0 in let g = goes.grows in omega (arith, l, g)),
@@ -120,8 +112,9 @@ module _ (building : Building) (later : World) (more t : ℕ) (goes : GoesOn bui
 
   pub other_keeps : (was : Phase) (x : Thread) → IsWorld w (words_of c.program) next → ThreadIn building was x → ThreadIn (in_later building later more) was x
   other_keeps was x world k =
-      let old = merged_old k.now x.attempt k.now_is in
-      let keeps = merged_keeps k.now x.attempt k.now_is in
+      let by = merged_by k.now x.attempt k.now_is in
+      let old : (v : ℕ) → IsFinished k.now next v → IsFinished (merged u w k.now later) more v = λ v f. ((let l = f.0 in let g = goes.grows in omega (arith, l, g)), by v (λ (o : Option Builder). o ≡ None) (λ o. f.1) (λ n. goes.finished v (f.0, sym (k.now_is.others v n) ∙ f.1))) in
+      let keeps : (h : ℕ) → KeepsAt k.now (merged u w k.now later) u h = λ h v i e. by v (λ (o : Option Builder). o ≡ Some (builder u h i)) (λ m. e) (λ n. absurd (n (builder u h i) (sym (k.now_is.others v n) ∙ e) refl)) in
       let known = merged_known k.now x.attempt k.now_is in
       record {
         now = merged u w k.now later;

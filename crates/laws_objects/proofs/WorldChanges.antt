@@ -1,15 +1,12 @@
 -- What the changes of a world leave.
 use Rattle.std.proofs.Common.{◌≡◌, ◌≢◌, ℕ, ◌≤◌, ◌<◌, ◌⊎◌, inl, inr, Bool, true, false, ◌&&◌, Option, Some, None, refl, sym, ap, ◌∙◌, subst, arith, ◌==◌, if◌then◌else◌}
 use Rattle.std.proofs.lemmas.Bool.{cases_Bool, eq-eqb, eqb-true, ne_eqb, eqb-false, false_from_ne_true}
-use Rattle.machine_types.specs.Worlds.{Item, Header, Made, Begun, Unstored, Lost, Builder, builder, World, IsFinished, IsOwnOrFinished, IsWorld, finished, same_item, same_builder, lost_if, with_builder, GoesOn}
+use Rattle.machine_types.specs.Worlds.{Item, Header, Made, Lost, Builder, builder, World, IsFinished, IsOwnOrFinished, IsWorld, finished, same_item, same_builder, lost_if, with_builder, GoesOn}
 
 item_same : (x y : Item) → same_item x y ≡ true → x ≡ y
-item_same Header Header e = refl
 item_same (Made q) (Made r) e = ap (λ (n : ℕ). Made n) (eqb-true q r e)
-item_same Begun Begun e = refl
-item_same Unstored Unstored e = refl
-item_same Lost Lost e = refl
-item_same x y e = absurd (cc)
+item_same x Header e = cc
+item_same x y e = cc
 
 item_self : (x : Item) → same_item x x ≡ true
 item_self (Made q) = eq-eqb q q refl
