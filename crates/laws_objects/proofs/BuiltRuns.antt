@@ -7,8 +7,7 @@ use Rattle.machine_types.specs.{Accesses.{found_by, words_after}, Construction.{
 use Rattle.machine_types.specs.{Core.{Core, Happening, Of, NextPart, start, event, event_of, next, all_happened, core}, Events.{wanted, moved}, MarkLaws.{HasFrozenTest, HasOwnedTest}}
 use Rattle.machine_types.specs.{OwnedPlaces.nowhere, PlainMemory.{Object, start_objects}, Settings.AreSettings, Standing.tags_of, StartLaws.{StartLiesApart, phase_at_start}, Threads.Thread}
 use Rattle.machine_types.specs.{Worlds.{Begun, Builder, builder, World}, declared.{config.Config.Config, phase.Phase.Phase}}
-use Rattle.laws_threads.proofs.Tests.{either_way}
-use Rattle.laws_threads.specs.{PartLaws.{NextKeepsStructure, counted_next}, StateLaws.{counted_phase_at, counted_after}, StructureLaws.StructureIsKept}
+use Rattle.laws_threads.{specs.{PartLaws.{NextKeepsStructure, counted_next}, StateLaws.{counted_phase_at, counted_after}, StructureLaws.StructureIsKept}, proofs.Tests.either_way}
 use Rattle.laws_states.specs.{ChangeLaws.{EventsLeaveOthers, all_objects, run_objects}, HeapFacts.{objects_of, objects_after}, RunFacts.HaveWidth, StateFacts.StateFacts}
 use Rattle.laws_states.{specs.StateLaws.{ProgramsKeepThreads, StartHasState, EventsKeepState, NextKeepsState}, proofs.GrowingRuns.all_append}
 use Rattle.laws_objects.{specs.{ConstructionLaws.{no_builders, StartHasConstruction}, UnfinishedObjects.{IsInitOn, NobodyHas}}, proofs.Buildings.{ThreadIn, BuiltState, building_in}}
@@ -22,19 +21,16 @@ pub record TellsClass (c : MarkedProgram) (class : ℕ) : Type 0 where
   pub are : AreFrozen c frozen
   pub tells : frozen class ≡ true
 
-told : (c : MarkedProgram) (frozen : ℕ → Bool) → AreFrozen c frozen → (class : ℕ) → IsFrozenClass c.program (tags_of c) class → TellsClass c class
-told c frozen are class is = record {
-  frozen = λ d. if d == class then true else frozen d;
-  are = record {
-    those = λ d e. elim (cases_Bool (d == class)) [ inl s ↦ subst (IsFrozenClass c.program (tags_of c)) (sym (eqb-true d class s)) is | inr s ↦ are.those d (rw s at e) ];
-    with_frozen = λ fi k. either_way (λ (b : Bool). (if b then true else frozen k.field.class) ≡ true) (k.field.class == class) refl (are.with_frozen fi k);
-    with_guarded = λ fi k. either_way (λ (b : Bool). (if b then true else frozen k.field.class) ≡ true) (k.field.class == class) refl (are.with_guarded fi k);
-  };
-  tells = ap (λ (b : Bool). if b then true else frozen class) (eq-eqb class class refl);
-}
-
 pub tells_class : HasFrozenTest → (c : MarkedProgram) → IsMarked c → (class : ℕ) → IsFrozenClass c.program (tags_of c) class → TellsClass c class
-tells_class tests c marked class is = let test = tests c marked.marks in told c test.0 test.1 class is
+tells_class tests c marked class is = let test = tests c marked.marks in record {
+  frozen = λ d. if d == class then true else test.0 d;
+  are = record {
+    those = λ d e. elim (cases_Bool (d == class)) [ inl s ↦ subst (IsFrozenClass c.program (tags_of c)) (sym (eqb-true d class s)) is | inr s ↦ test.1.those d (rw s at e) ];
+    with_frozen = λ fi k. either_way (λ (b : Bool). (if b then true else test.0 k.field.class) ≡ true) (k.field.class == class) refl (test.1.with_frozen fi k);
+    with_guarded = λ fi k. either_way (λ (b : Bool). (if b then true else test.0 k.field.class) ≡ true) (k.field.class == class) refl (test.1.with_guarded fi k);
+  };
+  tells = ap (λ (b : Bool). if b then true else test.0 class) (eq-eqb class class refl);
+}
 
 -- ---- the laws of events that all of it follows from
 

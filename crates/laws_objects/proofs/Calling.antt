@@ -4,8 +4,7 @@ use Rattle.std.{specs.List.AllByRecursion, proofs.lemmas.{Bool.{cases_Bool, eqb-
 use Rattle.lists.proofs.ListLaws.{same_some}
 use Rattle.jvm_types.specs.{CodeTable.{arguments, is_init}, Members.{MethodSite, is_static, is_init_name, is_class_init_name}, ProgramInvariant.site_in}
 use Rattle.jvm_types.specs.{Verifying.{suits, new_class, is_class_of, started}, declared.{class_numbers.TheConstants.OBJECT_CLASS, code.Op.Op, op_row.{OpRow.OpRow, Want.Want}}}
-use Rattle.jvm_types.specs.declared.{op_row.Want.TheVariants.{AnObject, ToStart}, program.{MethodInfo.MethodInfo, Program.Program, Target.Target}, typing.VType.VType}
-use Rattle.jvm_types.proofs.EachAfter.{all_append}
+use Rattle.jvm_types.{specs.declared.{op_row.Want.TheVariants.{AnObject, ToStart}, program.{MethodInfo.MethodInfo, Program.Program, Target.Target}, typing.VType.VType}, proofs.EachAfter.all_append}
 use Rattle.laws_programs.{specs.{EntryLaws.receiver_count, TargetLaws.HasRow}, proofs.LocalGoing.at_index}
 use Rattle.checked_program.specs.{CheckedLaws.receiver_want, FrozenPlaces.may_take, MarkedProgram.checked_part, Marks.called_method, declared.tag.Tag.Tag}
 use Rattle.checked_program.{specs.declared.tag.Tag.TheVariants.{Untagged, This}, proofs.CheckedPlaces.called_fit_all}
@@ -25,10 +24,8 @@ use Rattle.jvm_types.specs.declared.typing.VType.TheVariants as types
 -- ---- calls
 
 calls_take_none : (p : Program) (class : ℕ) (op : Op) (target : Target) (number k : ℕ) → called_method op target ≡ Some number → may_take p class op target k ≡ false
-calls_take_none p class (ops.Invokevirtual i) (targets.Method u) number k e = refl
 calls_take_none p class (ops.Invokespecial i) (targets.Method u) number k e = refl
-calls_take_none p class (ops.Invokestatic i) (targets.Method u) number k e = refl
-calls_take_none p class op target number k e = absurd (let bad : None ≡ Some number = e in cc)
+calls_take_none p class op target number k e = cc
 
 taken_at : (Old : ℕ → Type 0) (front : List Want) (class : ℕ) (s : List ℕ) (v : ℕ) → TakenOld Old (front ++ AnObject class ∷ []) s → slice_get s (length front) ≡ Some v → Old v
 taken_at Old [] class (x ∷ s) v h e = subst Old (same_some e) h.0
@@ -145,13 +142,6 @@ module _ (lawful : LawfulBuilding) (f : Frame) (fs : List Frame) (k : FrameIn la
         same_world (a ∷ rest) starts (instance_enters building (suc (length fs)) (null lawful) number called there a rest static one_more rest_old (subst (λ (b : Bool). ReceiverIs w next t (suc (length fs)) b a) (sym own) old) clean rest_clean)
         (subst (IsOwnOrFinished w next t) (sym receiver_is) (finished_known w next t a old))
 
-    calls_plain : is_init called ≡ false → Steps w next t (CallKeeps (a ∷ rest))
-    calls_plain init =
-        let takes_object : r.takes ≡ arguments called ++ AnObject called.class ∷ [] = takes ∙ ap (λ (b : Bool). arguments called ++ receiver_want b called.class ∷ []) init in
-        calls_old (not_built frozen called init) (taken_at (IsFinished w next) (arguments called) called.class f.stack a (subst (λ (ws : List Want). TakenOld (IsFinished w next) ws f.stack) takes_object taken) at)
-        (taken_at (IsStoredNowhere owning.stores) (arguments called) called.class f.stack a (subst (λ (ws : List Want). TakenOld (IsStoredNowhere owning.stores) ws f.stack) takes_object taken_clean) at)
-        (nothing_started (subst (AllByRecursion StartsNone) (sym takes_object) (all_append StartsNone (arguments called) (AnObject called.class ∷ []) (arguments_start called) (tt, tt))))
-
     -- an `<init>`
     module _ (init : is_init called ≡ true) where
       takes_start : r.takes ≡ arguments called ++ ToStart called.class ∷ []
@@ -256,7 +246,14 @@ module _ (lawful : LawfulBuilding) (f : Frame) (fs : List Frame) (k : FrameIn la
           by_type u e s = absurd (cc)
 
     calls_instance : Steps w next t (CallKeeps (a ∷ rest))
-    calls_instance = elim (cases_Bool (is_init called)) [ inl e ↦ calls_init e | inr e ↦ calls_plain e ]
+    calls_instance = elim (cases_Bool (is_init called)) [
+      | inl init ↦ calls_init init
+      | inr init ↦
+          let takes_object : r.takes ≡ arguments called ++ AnObject called.class ∷ [] = takes ∙ ap (λ (b : Bool). arguments called ++ receiver_want b called.class ∷ []) init in
+          calls_old (not_built frozen called init) (taken_at (IsFinished w next) (arguments called) called.class f.stack a (subst (λ (ws : List Want). TakenOld (IsFinished w next) ws f.stack) takes_object taken) at)
+          (taken_at (IsStoredNowhere owning.stores) (arguments called) called.class f.stack a (subst (λ (ws : List Want). TakenOld (IsStoredNowhere owning.stores) ws f.stack) takes_object taken_clean) at)
+          (nothing_started (subst (AllByRecursion StartsNone) (sym takes_object) (all_append StartsNone (arguments called) (AnObject called.class ∷ []) (arguments_start called) (tt, tt))))
+    ]
 
   pub calls_it : Steps w next t (CallKeeps (reverse (take (length r.takes) f.stack)))
   calls_it = elim call.by [

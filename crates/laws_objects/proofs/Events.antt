@@ -13,13 +13,12 @@ use Rattle.machine_types.specs.declared.effect.{Effect.TheVariants.Writes, Varia
 use Rattle.laws_threads.{specs.{Allowed.{Allowed, IsNamedField}, StateLaws.{counted_of, counted_phase_at}, StructureLaws.{StructureIsKept, counted_by}}, proofs.{Landing.{stand_top, rules_at}, Standings.top_here, ThreadMove.counting}}
 use Rattle.laws_states.{specs.{HeapFacts.{objects_by, objects_of}, Sites.ReachesIf}, proofs.{Accesses.{element_site, out_there}, Assembled.got_set, Lists.contained_got, NewHeader.behind_new, Places.same_object}}
 use Rattle.laws_states.proofs.{Movers.{HeapMover, heap_mover, heap_state}, Phases.{IsOldPhase, old_fits, events_reach}, WordSteps.words_go_on}
-use Rattle.laws_objects.{specs.ConstructionLaws.{EventsKeepConstruction}, proofs.ArraySlots.StoresFine}
+use Rattle.laws_objects.{specs.ConstructionLaws.EventsKeepConstruction, proofs.ArraySlots.StoresFine}
 use Rattle.laws_objects.proofs.{Buildings.{Building, Moving, in_world, with_stores, FrameIn, BelowIn, FramesIn, ThreadIn, Constructed, BuiltState, building_in, sees}, BuiltEffects.{KindOld, Built}}
 use Rattle.laws_objects.proofs.{EffectOps.FitsOp, FrameChanges.IsUnwound, InstructionMoves.{IsOutside, none_outside, KnownTop, StoresNewArray, stores_as}, LostObjects.{SeenByAll, LostIn}}
 use Rattle.laws_objects.proofs.{MonitorMoves.fits, Onwards.{built_here, built_clean, fits_op}, Operands.is_getfield, PhaseMoves.{moves_keep, allowed, run_known}}
-use Rattle.laws_objects.proofs.Places.{PlaceChange, leave_plain, same_words, plain, element, old_kind, IsLeft, WritesFine, effect_places, made_places}
+use Rattle.laws_objects.proofs.{Places.{PlaceChange, leave_plain, same_words, plain, element, old_kind, IsLeft, WritesFine, effect_places, made_places}, PlaceWriters.instance_word}
 use Rattle.laws_objects.proofs.{RestoredFrames.{NewArray, kept_there, stored_on, at_on, nowhere_on, thread_on, thread_sees}, ThreadMoves.Moved, UnreturnedInits.away_frames}
-use Rattle.laws_objects.proofs.PlaceWriters.{instance_word}
 use Rattle.laws_objects.proofs.{Views.{other_keeps, other_lost}, WorldChanges.{none_from, none_some, goes_same}}
 use Rattle.jvm_types.specs.declared.code.Op.TheVariants as ops
 use Rattle.jvm_types.specs.declared.outcome.Thrown.TheVariants as outcomes
@@ -397,14 +396,13 @@ module _ (lies : StartLiesApart) (structure : StructureIsKept) (state : BuiltSta
       kind_is field named = ap (λ (y : FieldInfo). y.kind) (field_is field named) ∙ array_field.array
 
       -- what is stored is an array
-      array_there : (o : Object) × (Contains objects o) × (o.reference ≡ it.array) × (o.class ≡ INT_ARRAY_CLASS)
-      array_there =
-          let held : IsNullOr (HasClass objects) INT_ARRAY_CLASS put = subst (λ (kind : Kind). KindHolds (HasClass objects) kind put) (kind_is allowed_it.1 allowed_it.2) allowed_it.3 in
-          elim held [ inl z ↦ absurd (zero_apart (sym z ∙ it.value)) | inr k ↦ (k.1.0, k.1.1, k.1.2 ∙ it.value, k.1.3 ∙ leaves_alone k.0 INT_ARRAY_CLASS refl k.2) ]
-
       arrays_are : (n word : ℕ) → behind n ≡ Some word → (o : Object) × (Contains objects o) × (o.reference ≡ n) × (o.class ≡ INT_ARRAY_CLASS)
       arrays_are n word h =
-          elim (cases_Bool (n == it.array)) [ inl q ↦ let k = array_there in (k.0, k.1, k.2 ∙ sym (eqb-true n it.array q), k.3) | inr q ↦ con.places.stored n word (rw q at h) ]
+          let held : IsNullOr (HasClass objects) INT_ARRAY_CLASS put = subst (λ (kind : Kind). KindHolds (HasClass objects) kind put) (kind_is allowed_it.1 allowed_it.2) allowed_it.3 in
+          elim (cases_Bool (n == it.array)) [
+            | inl q ↦ elim held [ inl z ↦ absurd (zero_apart (sym z ∙ it.value)) | inr k ↦ (k.1.0, k.1.1, k.1.2 ∙ (it.value ∙ sym (eqb-true n it.array q)), k.1.3 ∙ leaves_alone k.0 INT_ARRAY_CLASS refl k.2) ]
+            | inr q ↦ con.places.stored n word (rw q at h)
+          ]
 
       null_behind : behind 0 ≡ None
       null_behind = kept_there owning.stores new 0 zero_apart ∙ fine.null
@@ -444,15 +442,15 @@ module _ (lies : StartLiesApart) (structure : StructureIsKept) (state : BuiltSta
       by_effect (Writes v put) same puts = storing_thread here e a v put same puts
       by_effect d same puts = usual_thread (λ run f fs q k v put other. absurd (let bad : d ≡ Writes v put = sym same ∙ (ap (effect_at c.program) (sym (one_top f fs q k)) ∙ other) in cc))
 
-      by_puts : (z : Bool) → puts_owned owning.owned a.keeps.stands.insn.op a.keeps.stands.target ≡ z → BuildsFor (Some x)
-      by_puts true puts = by_effect (effect_at c.program (top_here c a.frame a.below a.keeps.stands)) refl puts
-      by_puts false plain = usual_thread (λ run f fs q k v put same. ap (λ (o : Top). puts_owned owning.owned o.insn.op o.target) (one_top f fs q k) ∙ plain)
+      by_puts : BuildsFor (Some x)
+      by_puts = elim (cases_Bool (puts_owned owning.owned a.keeps.stands.insn.op a.keeps.stands.target)) [
+        | inl puts ↦ by_effect (effect_at c.program (top_here c a.frame a.below a.keeps.stands)) refl puts
+        | inr plain ↦ usual_thread (λ run f fs q k v put same. ap (λ (o : Top). puts_owned owning.owned o.insn.op o.target) (one_top f fs q k) ∙ plain)
+      ]
 
     by_frames : x.phase ≡ phases.Run → was t ≡ phases.Run → (fs : List Frame) → x.frames ≡ fs → FramesIn seen Runs fs → BuildsFor (Some x)
     by_frames here e [] q kept = usual_thread (λ run f fs same. absurd (let bad : [] ≡ f ∷ fs = sym q ∙ same in cc))
-    by_frames here e (f ∷ fs) q kept =
-        let a = known here e (top_here c f fs kept.0.stands) (ap (top_of c.program) q ∙ stand_top c marked f fs kept.0.stands) in
-        by_puts here e a (puts_owned owning.owned a.keeps.stands.insn.op a.keeps.stands.target) refl
+    by_frames here e (f ∷ fs) q kept = by_puts here e (known here e (top_here c f fs kept.0.stands) (ap (top_of c.program) q ∙ stand_top c marked f fs kept.0.stands))
 
     pub of_thread : BuildsFor (Some x)
     of_thread = by_phase x.phase refl stood.is_as

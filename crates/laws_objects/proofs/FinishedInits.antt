@@ -1,14 +1,12 @@
 -- In every run an object is finished by the return of its own `<init>` alone: until then no place and no other thread has it.
-use Rattle.std.proofs.Common.{◌≡◌, ◌≢◌, ℕ, zero, suc, ◌<◌, ◌⊎◌, inl, inr, Bool, List, [], ◌∷◌, ◌++◌, length, Option, Some, None, refl, sym, ap, ◌∙◌, subst, arith, ◌==◌, slice_get, slice_index, get_or, arith}
+use Rattle.std.proofs.Common.{◌≡◌, ℕ, zero, suc, ◌<◌, ◌⊎◌, inl, inr, Bool, List, [], ◌∷◌, ◌++◌, length, Option, Some, None, refl, sym, ap, ◌∙◌, subst, arith, ◌==◌, slice_get, slice_index, get_or, arith}
 use Rattle.std.proofs.lemmas.{Bool.{cases_Bool, eqb-true, eqb-false}, Option.{slice_get_within, slice_get-get_or}}
 use Rattle.lists.proofs.ListLaws.{same_some}
 use Rattle.jvm_types.specs.declared.{fixed_words.TheConstants.NEXT_FREE_WORD}
 use Rattle.checked_program.specs.MarkedProgram.{MarkedProgram}
-use Rattle.machine_types.specs.Accesses.{found_by}
-use Rattle.machine_types.specs.{Core.{Core, Happening, Of, NextPart, event, event_of, next, all_happened, core}, Events.{wanted, moved}}
-use Rattle.machine_types.specs.{Frames.{Top, top_of, frames_of, given, given_back, returned}, PlainMemory.Object, Standing.Standing}
-use Rattle.machine_types.specs.{Structure.IsStructured, Threads.{Frame, Attempt, Thread}, Worlds.{Begun, Builder, builder}, declared.{config.Config.Config, phase.Phase.Phase}}
-use Rattle.machine_types.proofs.{Lists.got_when_set, PlainPartLaws.frames_are}
+use Rattle.machine_types.specs.{Accesses.found_by, Core.{Core, Happening, Of, NextPart, event, event_of, next, all_happened, core}, Events.{wanted, moved}}
+use Rattle.machine_types.specs.{Frames.{Top, top_of, frames_of, given, given_back, returned}, PlainMemory.Object, Standing.Standing, Structure.IsStructured, Threads.{Frame, Attempt, Thread}}
+use Rattle.machine_types.{specs.{Worlds.{Begun, Builder, builder}, declared.{config.Config.Config, phase.Phase.{Phase, TheVariants.Made}}}, proofs.{Lists.got_when_set, PlainPartLaws.frames_are}}
 use Rattle.laws_threads.{specs.{PartLaws.counted_next, StateLaws.counted_after}, proofs.{Landing.stand_top}}
 use Rattle.laws_states.{specs.{ChangeLaws.{all_objects, run_objects}, HeapFacts.objects_after}, proofs.{BegunThreads.{begun as begun_there}, GrowingRuns.next_long, Lists.contained_got}}
 use Rattle.laws_objects.{specs.UnfinishedObjects.{ReturnsFrom, NeverReturns, NoOtherHas, FinishedByOwnReturn}, proofs.Buildings.{Building, in_world, PhaseIn, ThreadIn, building_in}}
@@ -16,13 +14,12 @@ use Rattle.laws_objects.proofs.BuiltRuns.{Run, state_of, TellsClass, tells_class
 use Rattle.laws_objects.proofs.{FrameChanges.{frame_at, under, top_here, in_place, none_begun, TriesGo, IsUnwound, FramesGo, frames_go}, ThreadMoves.BasedIn}
 use Rattle.laws_objects.proofs.UnreturnedInits.{IsYoung, HasInit, init_stays, init_splits, HasBack, IsInside, world_begun, put_back_low, based_of, has_back_on, back_frames, away_frames}
 use Rattle.laws_objects.proofs.Unused.{uses_not, places_have_not}
-use Rattle.machine_types.specs.declared.phase.Phase.TheVariants as phases
 
 -- ---- the thread behind an event of its own
 
 -- the second frame stands, whatever phase counts
 second_stands : (b : Building) (phase : Phase) (f g : Frame) (fs : List Frame) → PhaseIn b phase (f ∷ g ∷ fs) → Standing b.c g
-second_stands b (phases.Made a word) f g fs k = k.keep.1.0.keeps.stands
+second_stands b (Made a word) f g fs k = k.keep.1.0.keeps.stands
 second_stands b phase f g fs k = k.1.0.keeps.stands
 
 module _ (building : Building) (h v : ℕ) (was : Phase) (x : Thread) (keeps : ThreadIn building was x) (inside : IsInside building.c building.frozen h v x) where
@@ -116,11 +113,7 @@ module _ (run : Run) (t h v : ℕ) where
           );
     }
 
-    -- an event of another thread
-    other_event : (u : ℕ) → u ≢ t → InsideThere c cfg frozen t h v (objects_after c.program s u objects) (counted_after c was s u) (event c s u)
-    other_event u apart = record { there = event_there run objects was s k.there u; thread = k.thread; here = laws.others c s u t (λ e. apart (sym e)) ∙ k.here; inside = k.inside }
-
-    -- and of the thread itself
+    -- an event of the thread itself
     is_now : slice_get (event c s t).threads t ≡ Some (moved c k.thread k.thread.phase (found_by s.words (wanted c k.thread k.thread.phase)))
     is_now = ap (λ (o : Option Thread). slice_get (event_of c s t o).threads t) k.here ∙ got_when_set s.threads t k.thread (moved c k.thread k.thread.phase (found_by s.words (wanted c k.thread k.thread.phase))) k.here
 
@@ -128,11 +121,15 @@ module _ (run : Run) (t h v : ℕ) where
     behind = event_there run objects was s k.there t
 
     own_event : (ReturnsFrom c v s t → ⊥) → Unfinished (objects_after c.program s t objects) (counted_after c was s t) (event c s t)
-    own_event never = by_move (goes_inside (building_in (state_of run objects was s k.there) t) h v (was t) k.thread keeps k.inside (moved c k.thread k.thread.phase (found_by s.words (wanted c k.thread k.thread.phase)))
+    own_event never = elim (goes_inside (building_in (state_of run objects was s k.there) t) h v (was t) k.thread keeps k.inside (moved c k.thread k.thread.phase (found_by s.words (wanted c k.thread k.thread.phase)))
         (based_of c (was t) k.thread stood)
         (based_of c (counted_after c was s t t) (moved c k.thread k.thread.phase (found_by s.words (wanted c k.thread k.thread.phase))) stands)
         (frames_go c (was t) k.thread (found_by s.words (wanted c k.thread k.thread.phase)) stood)
-        (λ at top is frames. never (record { thread = k.thread; there = k.here; top = at; is_top = top; init = is.init; later = moved c k.thread k.thread.phase (found_by s.words (wanted c k.thread k.thread.phase)); behind = is_now; gone = frames })))
+        (λ at top is frames. never (record { thread = k.thread; there = k.here; top = at; is_top = top; init = is.init; later = moved c k.thread k.thread.phase (found_by s.words (wanted c k.thread k.thread.phase)); behind = is_now; gone = frames }))) [
+          | inl inside ↦ inl (record { there = behind; thread = moved c k.thread k.thread.phase (found_by s.words (wanted c k.thread k.thread.phase)); here = is_now; inside = inside })
+          | inr left ↦ inr (lost_behind run objects was s k.there t v k.thread k.here left.unwound_by left.ended left.is.init left.is.young
+              (subst (λ (n : ℕ). k.there.world v ≡ Some (builder t n Begun)) (sym left.high) begun))
+        ]
       where
         keeps : ThreadIn (building_in (state_of run objects was s k.there) t) (was t) k.thread
         keeps = k.there.built.each t k.thread k.here
@@ -142,13 +139,6 @@ module _ (run : Run) (t h v : ℕ) where
 
         stands : IsStructured c (counted_after c was s t t) (moved c k.thread k.thread.phase (found_by s.words (wanted c k.thread k.thread.phase)))
         stands = behind.facts.structure t (moved c k.thread k.thread.phase (found_by s.words (wanted c k.thread k.thread.phase))) is_now
-
-        by_move : IsInside c frozen h v (moved c k.thread k.thread.phase (found_by s.words (wanted c k.thread k.thread.phase)))
-            ⊎ HasLeft (building_in (state_of run objects was s k.there) t) h v (was t) k.thread keeps k.inside (moved c k.thread k.thread.phase (found_by s.words (wanted c k.thread k.thread.phase)))
-            → Unfinished (objects_after c.program s t objects) (counted_after c was s t) (event c s t)
-        by_move (inl inside) = inl (record { there = behind; thread = moved c k.thread k.thread.phase (found_by s.words (wanted c k.thread k.thread.phase)); here = is_now; inside = inside })
-        by_move (inr left) = inr (lost_behind run objects was s k.there t v k.thread k.here left.unwound_by left.ended left.is.init left.is.young
-            (subst (λ (n : ℕ). k.there.world v ≡ Some (builder t n Begun)) (sym left.high) begun))
 
     next_part : InsideThere c cfg frozen t h v objects (counted_next c was s) (next c s)
     next_part =
@@ -175,7 +165,7 @@ module _ (run : Run) (t h v : ℕ) where
   one_event objects was s u never (inr lost) = inr (event_lost run objects was s v u lost)
   one_event objects was s u never (inl k) = elim (cases_Bool (u == t)) [
     | inl e ↦ subst (λ (n : ℕ). Unfinished (objects_after c.program s n objects) (counted_after c was s n) (event c s n)) (sym (eqb-true u t e)) (own_event objects was s k (subst (λ (n : ℕ). ReturnsFrom c v s n → ⊥) (eqb-true u t e) never))
-    | inr e ↦ inl (other_event objects was s k u (eqb-false u t e))
+    | inr e ↦ inl (record { there = event_there run objects was s k.there u; thread = k.thread; here = laws.others c s u t (λ i. eqb-false u t e (sym i)) ∙ k.here; inside = k.inside })
   ]
 
   all_unfinished : (es : List Happening) (objects : List Object) (was : ℕ → Phase) (s : Core) → NeverReturns c v s es → InsideThere c cfg frozen t h v objects was s ⊎ LostThere c cfg frozen v objects was s → NoOtherHas c v t (all_objects c s objects es) (all_happened c s es)

@@ -3,22 +3,18 @@
 use Rattle.std.proofs.Common.{◌≡◌, ℕ, ◌+◌, ◌-◌, ◌<◌, ◌⊎◌, inl, inr, Bool, true, false, List, [], ◌∷◌, length, drop, Option, Some, None, refl, sym, ap, ◌∙◌, subst, arith, ◌==◌, option_map, slice_get, if◌then◌else◌}
 use Rattle.std.proofs.lemmas.Bool.{cases_Bool, eq-eqb, eqb-true, ne_eqb}
 use Rattle.lists.proofs.ListLaws.{same_some}
-use Rattle.jvm_types.specs.{Members.is_synchronized, declared.{outcome.Thrown.Thrown, program.{MethodInfo.MethodInfo, Program.Program, Row.Row}}}
+use Rattle.jvm_types.specs.{Members.is_synchronized, declared.{outcome.Thrown.{Thrown, TheVariants.StackOverflowError}, program.{MethodInfo.MethodInfo, Program.Program, Row.Row}}}
 use Rattle.checked_program.specs.MarkedProgram.{MarkedProgram}
 use Rattle.machine_types.specs.{Construction.{Throws as Loose, PhaseKeeps}, Elision.{put_back, elided}, Events.{element_made, moved}}
 use Rattle.machine_types.specs.Frames.{Top, top_of, frames_of, went, went_on, waiting, taken_from, making, pushed, has_room, entry_frame, arguments_of, monitor_of, returned, handler_at}
 use Rattle.machine_types.specs.{Going.{runs, goes_on, goes_on_if}, HeldMonitors.{held_at, with_held, without_held, shallower}, Instructions.{made, printed}}
 use Rattle.machine_types.specs.{Onward.{Onward, Running, Throwing, Entering, Leaving, threw, entered, called, rooted, back, unwound, handed, after, done}, ReadyObjects.{class_of, thrown_of}}
 use Rattle.machine_types.specs.{Structure.{IsStructured, IsAs, Stands, AttemptStandsIn}, Threads.{Frame, Attempt, Thread}, Words.{header_class, header_length}, Worlds.{World, IsFinished}}
-use Rattle.machine_types.specs.declared.effect.Effect.{Effect}
-use Rattle.machine_types.specs.declared.effect.Effect.TheVariants.{Goes, Throws, Reads, Writes, Measures, Raises, Prints, Calls, Returns, Enters, Leaves}
-use Rattle.machine_types.{specs.declared.phase.{After.After, Phase.Phase}, proofs.PlainPartLaws.frames_are}
+use Rattle.machine_types.specs.declared.{effect.Effect.{Effect, TheVariants.{Goes, Throws, Reads, Measures, Raises, Prints, Calls, Returns}}, phase.After.{After, TheVariants.{Next, Return, Unwind}}}
+use Rattle.machine_types.{specs.declared.phase.Phase.{Phase, TheVariants.{FlatOut, Leave}}, proofs.PlainPartLaws.frames_are}
 use Rattle.laws_threads.{specs.EntryFrames.{frames_in, KeepsEntry}, proofs.{AttemptMoves.put_back_top, EntryKept.{steps_kept, throws_kept, leaves_kept}, Inside.base_below, MonitorEntries.none_tried}}
 use Rattle.laws_threads.proofs.ThreadMove.{GoesBy, Move, becomes, begun_attempt, counting, any_move, gives_up_in, tried_attempt, goes_attempt}
 use Rattle.laws_objects.proofs.{Buildings.{Building, FramesIn, PhaseIn}, ThreadMoves.{AreKnown, AttemptFrom, deeper_from, from_same, known_at, known_with, known_without, goes_frames}}
-use Rattle.jvm_types.specs.declared.outcome.Thrown.TheVariants as thrown
-use Rattle.machine_types.specs.declared.phase.After.TheVariants as afters
-use Rattle.machine_types.specs.declared.phase.Phase.TheVariants as phases
 use Rattle.laws_threads.proofs.ThreadMove as moves
 
 -- ---- the frame that has so many below it
@@ -60,22 +56,19 @@ above f g n fs alike h k e = let s = in_place f g fs alike h k e in (s.0, under 
 
 -- ---- how a thread goes on
 
-abbrev IsBack : Program → List Frame → Onward → Type 0
-IsBack p fs o = (at : Top) × (top_of p fs ≡ Some at) × (o ≡ back (returned p at))
-
 abbrev IsAway : (x : ℕ) → Thrown → List Frame → Onward → Type 0
 IsAway x class fs o = (f : Frame) × (below : List Frame) × (fs ≡ f ∷ below) × (o ≡ unwound x class below)
 
 -- by an instruction; x and class: what is thrown, or is to be thrown on
 abbrev OnwardGoes : Program → List Frame → Onward → Type 0
-OnwardGoes p fs o = Stay fs (frames_in o) ⊎ IsBack p fs o
+OnwardGoes p fs o = Stay fs (frames_in o) ⊎ ((at : Top) × (top_of p fs ≡ Some at) × (o ≡ back (returned p at)))
 
 module _ (p : Program) (at : Top) where
   entered_goes : (m : MethodInfo) (g : Frame) (b : Bool) → Stay (frames_of at) (frames_in (if b then Entering (monitor_of p m g) (g ∷ waiting p at) else Running (g ∷ waiting p at)))
   entered_goes m g true = above at.frame (taken_from p at) g at.below (refl, refl)
   entered_goes m g false = above at.frame (taken_from p at) g at.below (refl, refl)
 
-  called_goes : (number : ℕ) (m : MethodInfo) (b : Bool) → Stay (frames_of at) (frames_in (if b then entered p m (entry_frame number m (arguments_of p at)) (waiting p at) else threw thrown.StackOverflowError at))
+  called_goes : (number : ℕ) (m : MethodInfo) (b : Bool) → Stay (frames_of at) (frames_in (if b then entered p m (entry_frame number m (arguments_of p at)) (waiting p at) else threw StackOverflowError at))
   called_goes number m true = entered_goes m (entry_frame number m (arguments_of p at)) (is_synchronized m.flags)
   called_goes number m false = stay_same (frames_of at)
 
@@ -87,38 +80,23 @@ module _ (p : Program) (at : Top) where
   Done None = Unit {0}
   Done (Some o) = OnwardGoes p (frames_of at) o
 
-  returns_goes : (top : top_of p (frames_of at) ≡ Some at) (b : Bool) → OnwardGoes p (frames_of at) (if b then Leaving (monitor_of p at.method at.frame) afters.Return (frames_of at) else back (returned p at))
-  returns_goes top true = inl (stay_same (frames_of at))
-  returns_goes top false = inr (at, top, refl)
-
-  raises : (o : Option Thrown) (x : ℕ) → Done (option_map (λ class. Throwing x class (frames_of at)) o)
-  raises None x = tt
-  raises (Some class) x = inl (stay_same (frames_of at))
-
-  calls : (number : ℕ) (o : Option MethodInfo) → Done (option_map (called p at number) o)
-  calls number None = tt
-  calls number (Some m) = inl (called_goes number m (has_room p (frames_of at) m))
-
   instruction_goes : (top : top_of p (frames_of at) ≡ Some at) (e : Effect) (got : ℕ) → Done (done p at e got)
   instruction_goes top (Goes to made) got = inl (went_goes to made)
   instruction_goes top (Throws x) got = inl (stay_same (frames_of at))
   instruction_goes top (Reads v) got = inl (went_goes at.insn.next got)
-  instruction_goes top (Writes v word) got = inl (went_goes at.insn.next 0)
   instruction_goes top (Measures array) got = inl (went_goes at.insn.next (header_length got))
-  instruction_goes top (Raises x) got = raises (thrown_of (header_class got)) x
-  instruction_goes top (Prints n) got = inl (went_goes at.insn.next 0)
-  instruction_goes top (Calls number) got = calls number (slice_get p.methods number)
-  instruction_goes top Returns got = returns_goes top (is_synchronized at.method.flags)
-  instruction_goes top (Enters n) got = inl (went_goes at.insn.next 0)
-  instruction_goes top (Leaves n) got = inl (went_goes at.insn.next 0)
-  instruction_goes top e got = tt
+  instruction_goes top (Raises x) got = elim (thrown_of (header_class got)) as (λ (o : Option Thrown). Done (option_map (λ class. Throwing x class (frames_of at)) o)) [ None ↦ tt | Some class ↦ inl (stay_same (frames_of at)) ]
+  instruction_goes top (Calls number) got = elim (slice_get p.methods number) as (λ (o : Option MethodInfo). Done (option_map (called p at number) o)) [ None ↦ tt | Some m ↦ inl (called_goes number m (has_room p (frames_of at) m)) ]
+  instruction_goes top Returns got = elim (is_synchronized at.method.flags) as (λ (b : Bool). OnwardGoes p (frames_of at) (if b then Leaving (monitor_of p at.method at.frame) Return (frames_of at) else back (returned p at)))
+      [ true ↦ inl (stay_same (frames_of at)) | false ↦ inr (at, top, refl) ]
+  instruction_goes top e got = first_of (assumption, search (inl, went_goes at.insn.next 0))
 
   -- an exception
   handed_goes : (x : ℕ) (class : Thrown) (o : Option Row) → Stay (frames_of at) (frames_in (handed p x class at o)) ⊎ IsAway x class (frames_of at) (handed p x class at o)
   handed_goes x class (Some r) = inl (in_place at.frame _ at.below (refl, refl))
   handed_goes x class None =
-      elim (is_synchronized at.method.flags) as (λ (b : Bool). Stay (frames_of at) (frames_in (if b then Leaving (monitor_of p at.method at.frame) (afters.Unwind x class) (frames_of at) else unwound x class at.below))
-      ⊎ IsAway x class (frames_of at) (if b then Leaving (monitor_of p at.method at.frame) (afters.Unwind x class) (frames_of at) else unwound x class at.below)) [ true ↦ inl (stay_same (frames_of at)) | false ↦ inr (at.frame, at.below, refl, refl) ]
+      elim (is_synchronized at.method.flags) as (λ (b : Bool). Stay (frames_of at) (frames_in (if b then Leaving (monitor_of p at.method at.frame) (Unwind x class) (frames_of at) else unwound x class at.below))
+      ⊎ IsAway x class (frames_of at) (if b then Leaving (monitor_of p at.method at.frame) (Unwind x class) (frames_of at) else unwound x class at.below)) [ true ↦ inl (stay_same (frames_of at)) | false ↦ inr (at.frame, at.below, refl, refl) ]
 
 -- ---- a thread goes on
 
@@ -195,9 +173,6 @@ module _ (c : MarkedProgram) (was : Phase) (x : Thread) where
     pub tries : AttemptFrom x.attempt s.attempt
     pub known : (w : World) (next t : ℕ) → AreKnown w next t x.held → AreKnown w next t s.held
 
-  as_it_was : (s : Thread) → s.frames ≡ x.frames → s.attempt ≡ x.attempt → s.held ≡ x.held → Stood s
-  as_it_was s frames attempt held = record { frames = frames; tries = subst (AttemptFrom x.attempt) (sym attempt) (from_same x.attempt); known = λ w next t k. subst (AreKnown w next t) (sym held) k }
-
   tries_on : (s : Thread) → Stood s → (o : Onward) → ((a : Attempt) → KeepsEntry a x.frames o) → TriesGo x.attempt (goes_on s o).attempt x.frames (goes_on s o).frames
   tries_on s stood o entry = tries_from x.attempt (goes_on s o).attempt x.frames (goes_on s o).frames (subst (AttemptFrom x.attempt) (sym (goes_attempt s o)) stood.tries)
       (λ a l m. ap (put_back a) (goes_frames s o) ∙ entry a l (subst (λ (fs : List Frame). a.base < length fs) (goes_frames s o) m))
@@ -209,11 +184,11 @@ module _ (c : MarkedProgram) (was : Phase) (x : Thread) where
 
   -- what it throws where it does so
   abbrev CarriesIn : After → Type 0
-  CarriesIn a = (v : ℕ) (class : Thrown) → a ≡ afters.Unwind v class → Carries was x.frames v
+  CarriesIn a = (v : ℕ) (class : Thrown) → a ≡ Unwind v class → Carries was x.frames v
 
   goes_behind : (a : After) (s : Thread) → Stood s → CarriesIn a → Go (goes_on_if s (after c.program x.frames a))
-  goes_behind afters.Next s stood carried = on s stood (Running x.frames) (stay_same x.frames) (λ a. leaves_kept c.program x.frames a afters.Next (Running x.frames) refl)
-  goes_behind afters.Return s stood carried = by_top (top_of c.program x.frames) refl
+  goes_behind Next s stood carried = on s stood (Running x.frames) (stay_same x.frames) (λ a. leaves_kept c.program x.frames a Next (Running x.frames) refl)
+  goes_behind Return s stood carried = by_top (top_of c.program x.frames) refl
     where
       by_top : (o : Option Top) → top_of c.program x.frames ≡ o → Go (goes_on_if s (option_map (λ at. back (returned c.program at)) o))
       by_top None e = still s stood.frames stood.tries
@@ -222,9 +197,9 @@ module _ (c : MarkedProgram) (was : Phase) (x : Thread) where
         top = e;
         from = s;
         is = refl;
-        tries = tries_on s stood (back (returned c.program at)) (λ a. leaves_kept c.program x.frames a afters.Return (back (returned c.program at)) (ap (option_map (λ at. back (returned c.program at))) e));
+        tries = tries_on s stood (back (returned c.program at)) (λ a. leaves_kept c.program x.frames a Return (back (returned c.program at)) (ap (option_map (λ at. back (returned c.program at))) e));
       }))
-  goes_behind (afters.Unwind v class) s stood carried = by_frames x.frames refl
+  goes_behind (Unwind v class) s stood carried = by_frames x.frames refl
     where
       by_frames : (fs : List Frame) → x.frames ≡ fs → Go (goes_on s (unwound v class (drop 1 fs)))
       by_frames [] e = inl (record {
@@ -239,27 +214,24 @@ module _ (c : MarkedProgram) (was : Phase) (x : Thread) where
         thrown = v;
         class = class;
         is = refl;
-        tries = tries_on s stood (unwound v class below) (λ a. leaves_kept c.program x.frames a (afters.Unwind v class) (unwound v class below) (ap (λ (fs : List Frame). Some (unwound v class (drop 1 fs))) e));
+        tries = tries_on s stood (unwound v class below) (λ a. leaves_kept c.program x.frames a (Unwind v class) (unwound v class below) (ap (λ (fs : List Frame). Some (unwound v class (drop 1 fs))) e));
         known = stood.known;
         carries = carried v class refl;
       })))
 
-  same : (y : Thread) → y.frames ≡ x.frames → y.attempt ≡ x.attempt → Go y
-  same y frames attempt = still y frames (subst (AttemptFrom x.attempt) (sym attempt) (from_same x.attempt))
-
   -- in a phase that throws behind a monitor, or may
-  carries : (to : After → Phase) → ((w : World) (next t v : ℕ) (class : Thrown) → PhaseKeeps w next t (to (afters.Unwind v class)) → IsFinished w next v)
-      → ((b : Building) (v : ℕ) (class : Thrown) → PhaseIn b (to (afters.Unwind v class)) x.frames → FramesIn b Loose x.frames)
+  carries : (to : After → Phase) → ((w : World) (next t v : ℕ) (class : Thrown) → PhaseKeeps w next t (to (Unwind v class)) → IsFinished w next v)
+      → ((b : Building) (v : ℕ) (class : Thrown) → PhaseIn b (to (Unwind v class)) x.frames → FramesIn b Loose x.frames)
       → (a : After) → was ≡ to a → CarriesIn a
   carries to finished frames a e v class is =
-      let now : was ≡ to (afters.Unwind v class) = e ∙ ap to is in
+      let now : was ≡ to (Unwind v class) = e ∙ ap to is in
       record {
         finished = λ w next t k. finished w next t v class (subst (λ (p : Phase). PhaseKeeps w next t p) now k);
         frames = λ b k. frames b v class (subst (λ (p : Phase). PhaseIn b p x.frames) now k);
       }
 
-  leaves_carry : (m : ℕ) (a : After) → was ≡ phases.Leave m a → CarriesIn a
-  leaves_carry m = carries (phases.Leave m) (λ w next t v class k. k.1) (λ b v class k. k)
+  leaves_carry : (m : ℕ) (a : After) → was ≡ Leave m a → CarriesIn a
+  leaves_carry m = carries (Leave m) (λ w next t v class k. k.1) (λ b v class k. k)
 
   -- ---- all moves, whatever it has counted
 
@@ -268,7 +240,7 @@ module _ (c : MarkedProgram) (was : Phase) (x : Thread) where
     s = counting n x
 
     stood : Stood s
-    stood = as_it_was s refl refl refl
+    stood = record { frames = refl; tries = from_same x.attempt; known = λ w next t k. k }
 
     there : (at : Top) → top_of c.program x.frames ≡ Some at → frames_of at ≡ x.frames
     there at top = frames_are c.program x.frames at top
@@ -317,7 +289,7 @@ module _ (c : MarkedProgram) (was : Phase) (x : Thread) where
     goes_go _ _ (moves.by_object a word) is = pushed_goes a x.frames refl
     goes_go _ _ (moves.by_handler v class at top) is = throws_on v class
         (record { finished = λ w next t k. subst (λ (p : Phase). PhaseKeeps w next t p) is k; frames = λ b k. subst (λ (p : Phase). PhaseIn b p x.frames) is k }) at top
-    goes_go phase o k is = on s stood (Running x.frames) (stay_same x.frames) (λ a. leaves_kept c.program x.frames a afters.Next (Running x.frames) refl)
+    goes_go phase o k is = on s stood (Running x.frames) (stay_same x.frames) (λ a. leaves_kept c.program x.frames a Next (Running x.frames) refl)
 
     -- the next root, with no frame yet
     starts_go : x.frames ≡ [] → (y : Thread) → Stood y → (o : Option Onward) → Go (goes_on_if y o)
@@ -334,37 +306,29 @@ module _ (c : MarkedProgram) (was : Phase) (x : Thread) where
           (λ a l m. ap (put_back a) is ∙ steps_kept c.program x.frames a at (Prints 0) 0 (Running (went_on c.program at 0)) top refl l (subst (λ (fs : List Frame). a.base < length fs) is m));
     })
 
-    makes_go : (at : Top) → top_of c.program x.frames ≡ Some at → (y : Thread) → y.frames ≡ making c.program at → y.attempt ≡ x.attempt → Go y
-    makes_go at top y is tried = inl (record {
-      frames = subst (Stay x.frames) (sym is) (subst (λ (fs : List Frame). Stay fs (making c.program at)) (there at top) (in_place at.frame _ at.below (refl, refl)));
-      tries = tries_from x.attempt y.attempt x.frames y.frames (subst (AttemptFrom x.attempt) (sym tried) (from_same x.attempt))
-          (λ b l m. ap (put_back b) is ∙ put_back_top b at.frame (record (taken_from c.program at) { pc = at.insn.next }) at.below (base_below b at.frame at.below (subst (λ (fs : List Frame). b.base < length fs) is m)) ∙ ap (put_back b) (there at top));
-    })
-
-    -- ---- an attempt
-
-    begins_go : (m noted tried : ℕ) (f : Frame) (below : List Frame) → x.frames ≡ f ∷ below → x.attempt ≡ None → Go (runs (record s { attempt = Some (begun_attempt m noted tried f below) }))
-    begins_go m noted tried f below e none =
-        let a : Attempt = begun_attempt m noted tried f below in
-        let one : length (f ∷ below) - length below ≡ 1 = omega arith in
-        inl (record { frames = stay_same x.frames; tries = subst (λ (o : Option Attempt). TriesGo o (Some a) x.frames x.frames) (sym none) (refl, subst (λ (fs : List Frame). put_back a fs ≡ fs) (sym e) (ap (λ (n : ℕ). f ∷ drop n (f ∷ below)) one)) })
-
     -- ---- each of them
 
     move_goes : (phase : Phase) (k : Move c s got phase) → IsAs phase was → Stands c was x.frames x.held x.attempt → AttemptStandsIn c was x.frames x.held x.attempt → Go (becomes c s got phase k)
     move_goes phase (moves.goes o k) is stands inside = goes_go phase o k is
     move_goes phase (moves.fails_in t e d k) is stands inside = inr (inr (inr (record { attempt = t; tried = e; frames = refl; ended = refl })))
-    move_goes _ (moves.makes at word size top e t) is stands inside = makes_go at top _ refl refl
+    move_goes _ (moves.makes at word size top e t) is stands inside = inl (record {
+      frames = subst (λ (fs : List Frame). Stay fs (making c.program at)) (there at top) (in_place at.frame _ at.below (refl, refl));
+      tries = tries_from x.attempt x.attempt x.frames (making c.program at) (from_same x.attempt)
+          (λ b l m. put_back_top b at.frame (record (taken_from c.program at) { pc = at.insn.next }) at.below (base_below b at.frame at.below m) ∙ ap (put_back b) (there at top));
+    })
     move_goes _ (moves.prints at v top e t) is stands inside = did_so at top (goes_on (printed s got v) (Running (went_on c.program at 0))) refl refl
     move_goes _ (moves.asks_to_wait at m h now top e l k) is stands inside = did_so at top _ refl refl
     move_goes _ (moves.asks at m h now top y l k) is stands inside = did_so at top _ refl refl
     move_goes _ (moves.enters_inside m tried t k) is stands inside =
         still (runs (record s { attempt = Some (record t { inner = t.inner + 1 }) })) refl (deeper_from x.attempt t (t.inner + 1) (tried_attempt m (held_at x.held m) x.attempt t k))
     move_goes _ (moves.begins_to_try m tried noted f below e y l t free) is stands inside =
-        begins_go m noted tried f below e (none_tried c m tried x.frames x.held (held_at x.held m) x.attempt free (subst (λ (p : Phase). AttemptStandsIn c p x.frames x.held x.attempt) is inside))
+        let a : Attempt = begun_attempt m noted tried f below in
+        let one : length (f ∷ below) - length below ≡ 1 = omega arith in
+        let none : x.attempt ≡ None = none_tried c m tried x.frames x.held (held_at x.held m) x.attempt free (subst (λ (p : Phase). AttemptStandsIn c p x.frames x.held x.attempt) is inside) in
+        inl (record { frames = stay_same x.frames; tries = subst (λ (o : Option Attempt). TriesGo o (Some a) x.frames x.frames) (sym none) (refl, subst (λ (fs : List Frame). put_back a fs ≡ fs) (sym e) (ap (λ (n : ℕ). f ∷ drop n (f ∷ below)) one)) })
     move_goes phase (moves.gives_up m a k) is stands inside =
         goes_behind a (record s { held = without_held m x.held }) (record { frames = refl; tries = from_same x.attempt; known = λ w next t k. known_without w next t m x.held k })
-        (gives_up_in (λ (phase : Phase). IsAs phase was → CarriesIn a) s m a phase k (leaves_carry m a) (carries (phases.FlatOut m) (λ w next t v class k. k.1) (λ b v class k. k) a) is)
+        (gives_up_in (λ (phase : Phase). IsAs phase was → CarriesIn a) s m a phase k (leaves_carry m a) (carries (FlatOut m) (λ w next t v class k. k.1) (λ b v class k. k) a) is)
     move_goes _ (moves.leaves_outer m a h e t) is stands inside = goes_behind a (record s { held = with_held (shallower h) x.held })
         (record { frames = refl; tries = from_same x.attempt; known = λ w next t k. known_with w next t (shallower h) x.held (known_at w next t m x.held h k e) k }) (leaves_carry m a is)
     move_goes _ (moves.leaves_inside m a t inner k e) is stands inside = goes_behind a (record s { attempt = Some (record t { inner = inner }) })
@@ -372,8 +336,9 @@ module _ (c : MarkedProgram) (was : Phase) (x : Thread) where
     move_goes _ (moves.finishes_try m a t k e y) is stands inside = goes_behind a (elided s)
         (record { frames = refl; tries = (subst (λ (o : Option Attempt). AttemptFrom o None) (sym (tried_attempt m (held_at x.held m) x.attempt t k)) tt); known = λ w next t k. k }) (leaves_carry m a is)
     move_goes _ (moves.starts number roots e) is stands inside =
-        starts_go (subst (λ (p : Phase). Stands c p x.frames x.held x.attempt) is stands).phase_shows (record s { roots = roots }) (as_it_was (record s { roots = roots }) refl refl refl) (option_map (rooted c.program x.number number) (slice_get c.program.methods number))
-    move_goes phase k is stands inside = same (becomes c s got phase k) refl refl
+        starts_go (subst (λ (p : Phase). Stands c p x.frames x.held x.attempt) is stands).phase_shows (record s { roots = roots }) (record { frames = refl; tries = from_same x.attempt; known = λ w next t k. k })
+        (option_map (rooted c.program x.number number) (slice_get c.program.methods number))
+    move_goes phase k is stands inside = still (becomes c s got phase k) refl (from_same x.attempt)
 
   pub frames_go : (got : ℕ) → IsStructured c was x → Go (moved c x x.phase got)
   frames_go got stood = any_move Go c x x.phase got (λ n k. move_goes n got x.phase k stood.is_as stood.stands stood.attempt)

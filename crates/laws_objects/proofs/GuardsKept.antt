@@ -1,40 +1,37 @@
 -- What an event changes of guarded fields, of elements of owned arrays, of final fields of frozen classes, and of static fields
 -- that are guarded or final.
-use Rattle.std.{proofs.Common.{◌≡◌, ◌⊎◌, inl, inr, ℕ, true, false, List, [], ◌∷◌, Option, Some, None, sym, ap, ◌∙◌, subst, Contains, slice_get, slice_index}, specs.List.list_any}
+use Rattle.std.proofs.Common.{◌≡◌, ◌⊎◌, inl, inr, ℕ, true, false, List, [], ◌∷◌, Option, Some, None, sym, ap, ◌∙◌, subst, Contains, slice_get, slice_index}
 use Rattle.lists.proofs.ListLaws.{same_some}
-use Rattle.jvm_types.specs.{ClassNames.file_of_class, CodeTable.is_init, Members.{is_static, is_class_init_name}, declared.program.FieldInfo.FieldInfo}
-use Rattle.checked_program.specs.{FrozenPlaces.{IsFrozenField, IsFrozenStatic, IsGuardedField, IsGuardedStatic, locks_this, locks_class}, LockTags.is_this, MarkedProgram.{MarkedProgram, IsMarked}}
-use Rattle.checked_program.specs.{OwnedArrays.IsOwnedArrayField, SectionLaws.{HasThis, ElementWriteLaw, FinalLaw, FinalStaticLaw, OwnedIsDecided, StaticWriteLaw, WriteLaw}}
+use Rattle.jvm_types.specs.{ClassNames.file_of_class, CodeTable.is_init, Members.is_static, declared.program.FieldInfo.FieldInfo}
+use Rattle.checked_program.specs.{FrozenPlaces.{IsFrozenField, IsFrozenStatic, IsGuardedField, IsGuardedStatic}, MarkedProgram.{MarkedProgram, IsMarked}}
+use Rattle.checked_program.specs.SectionLaws.{HasThis, ElementWriteLaw, FinalLaw, FinalStaticLaw, OwnedIsDecided, StaticWriteLaw, WriteLaw}
 use Rattle.machine_types.specs.{Accesses.words_after, Core.{event, event_of}, Events.wanted, Guards.{MakesObject, IsOfClassInit, MakesClass, HoldsMonitor, ChangesWord, Changes, KeepsGuards}}
-use Rattle.machine_types.specs.{HeldMonitors.held_at, OwnedPlaces.IsElementOf, PlainMemory.Object, Standing.tags_of, Structure.{HasFrame, IsStructured, Stands, TopIs, is_element_op}, Threads.{Attempt, Frame, Thread}}
-use Rattle.machine_types.specs.{Words.{class_object, value_word}, declared.{lock.Held.Held, phase.Phase.Phase}}
+use Rattle.machine_types.specs.{HeldMonitors.held_at, PlainMemory.Object, Standing.tags_of, Structure.{HasFrame, IsAs, IsStructured, Stands, TopIs, is_element_op}, Threads.{Attempt, Frame, Thread}}
+use Rattle.machine_types.specs.{Words.{class_object, value_word}, declared.{lock.Held.Held, phase.Phase.{Phase, TheVariants.{Element, Run}}}}
 use Rattle.laws_threads.proofs.{Inside.stack_this, Standings.are_tagged}
-use Rattle.laws_states.specs.PartsLaws.{ClassInitsRunAlone}
-use Rattle.laws_states.proofs.Movers.{KnownSites}
+use Rattle.laws_states.{specs.PartsLaws.ClassInitsRunAlone, proofs.Movers.KnownSites}
 use Rattle.laws_objects.{specs.GuardLaws.EventsKeepGuards, proofs.{ElementWriters.{ElementWriter, StoresElement, element_writer}, FieldWriters.{Writer, field_writer}}}
 use Rattle.laws_objects.proofs.{PlaceWriters.{BuiltEvent, place_event, TopWrites, IsWriter}, ShownMonitors.{holds_receiver, holds_class}, StaticWriters.{StaticWriter, static_writer}}
-use Rattle.machine_types.specs.declared.phase.Phase.TheVariants as phases
 
 abbrev IsHeld : (m : ℕ) → List Held → Type 0
 IsHeld m held = (h : Held) × (held_at held m ≡ Some h)
 
 -- ---- a frame that writes a field
 
-module _ (c : MarkedProgram) (marked : IsMarked c) (fi reference : ℕ) (f : Frame) (fs : List Frame) (held : List Held) (stands : Stands c phases.Run (f ∷ fs) held None) (k : Writer c fi reference f) where
+module _ (c : MarkedProgram) (marked : IsMarked c) (fi reference : ℕ) (f : Frame) (fs : List Frame) (held : List Held) (stands : Stands c Run (f ∷ fs) held None) (k : Writer c fi reference f) where
   on_this : HasThis f.receiver k.stands.tags.stack f.stack
   on_this = stack_this c marked f k.stands stands.show.0 stands.show.3
 
   makes : slice_index f.stack 1 ≡ f.receiver → is_init k.stands.method ≡ true → MakesObject c reference (f ∷ fs)
   makes this init = (k.stands.method, k.stands.at.in_program, init, sym this ∙ k.on)
 
-  holds : slice_index f.stack 1 ≡ f.receiver → (list_any is_this k.stands.tags.held ≡ true) ⊎ (locks_this k.stands.method ≡ true) → IsHeld reference held
-  holds this shows = subst (λ (m : ℕ). IsHeld m held) (sym this ∙ k.on) (holds_receiver c marked f fs held k.stands stands shows)
-
   pub guarded_top : WriteLaw → IsGuardedField c.program (tags_of c) fi → IsHeld reference held ⊎ MakesObject c reference (f ∷ fs)
-  guarded_top law g = elim written.1 [ inl init ↦ inr (makes written.0 init) | inr shows ↦ inl (holds written.0 shows) ]
-    where
-      written : (slice_index f.stack 1 ≡ f.receiver) × ((is_init k.stands.method ≡ true) ⊎ (list_any is_this k.stands.tags.held ≡ true) ⊎ (locks_this k.stands.method ≡ true))
-      written = law c.program (tags_of c) fi f.method k.stands.number k.index f.receiver k.stands.method k.stands.insn k.stands.target k.stands.tags f.stack g k.stands.at k.is k.names on_this
+  guarded_top law g =
+      let written = law c.program (tags_of c) fi f.method k.stands.number k.index f.receiver k.stands.method k.stands.insn k.stands.target k.stands.tags f.stack g k.stands.at k.is k.names on_this in
+      elim written.1 [
+        | inl init ↦ inr (makes written.0 init)
+        | inr shows ↦ inl (subst (λ (m : ℕ). IsHeld m held) (sym written.0 ∙ k.on) (holds_receiver c marked f fs held k.stands stands shows))
+      ]
 
   pub frozen_top : FinalLaw → IsFrozenField c.program (tags_of c) fi → MakesObject c reference (f ∷ fs)
   frozen_top law g =
@@ -44,7 +41,7 @@ module _ (c : MarkedProgram) (marked : IsMarked c) (fi reference : ℕ) (f : Fra
 -- ---- a frame that stores an element of an array that the object owns
 
 module _ (c : MarkedProgram) (marked : IsMarked c) (o : Object) (f : Frame) (fs : List Frame)
-    (held : List Held) (stands : Stands c phases.Run (f ∷ fs) held None)
+    (held : List Held) (stands : Stands c Run (f ∷ fs) held None)
     (k : ElementWriter c o f) where
   pub element_top : ElementWriteLaw → IsHeld o.reference held ⊎ MakesObject c o.reference (f ∷ fs)
   element_top law = elim (law c.program (tags_of c) f.method k.stands.number k.stands.method
@@ -60,15 +57,14 @@ module _ (c : MarkedProgram) (marked : IsMarked c) (o : Object) (f : Frame) (fs 
 abbrev class_monitor : MarkedProgram → FieldInfo → ℕ
 class_monitor c field = class_object c.program (file_of_class field.class)
 
-module _ (c : MarkedProgram) (marked : IsMarked c) (fi : ℕ) (f : Frame) (fs : List Frame) (held : List Held) (stands : Stands c phases.Run (f ∷ fs) held None) (k : StaticWriter c fi f) where
+module _ (c : MarkedProgram) (marked : IsMarked c) (fi : ℕ) (f : Frame) (fs : List Frame) (held : List Held) (stands : Stands c Run (f ∷ fs) held None) (k : StaticWriter c fi f) where
   pub guarded_static_top : StaticWriteLaw → (g : IsGuardedStatic c.program (tags_of c) fi) → IsHeld (class_monitor c g.field) held ⊎ IsOfClassInit c g.field.class (f ∷ fs)
-  guarded_static_top law g = elim written.1 [
-    | inl init ↦ inr (k.stands.method, k.stands.at.in_program, init, written.0)
-    | inr locks ↦ inl (subst (λ (class : ℕ). IsHeld (class_object c.program (file_of_class class)) held) written.0 (holds_class c marked f fs held k.stands stands locks))
-  ]
-    where
-      written : (k.stands.method.class ≡ g.field.class) × ((is_class_init_name k.stands.method.name ≡ true) ⊎ (locks_class k.stands.method ≡ true))
-      written = law c.program (tags_of c) fi f.method k.stands.number k.index k.stands.method k.stands.insn k.stands.target k.stands.tags g k.stands.at k.is k.names
+  guarded_static_top law g =
+      let written = law c.program (tags_of c) fi f.method k.stands.number k.index k.stands.method k.stands.insn k.stands.target k.stands.tags g k.stands.at k.is k.names in
+      elim written.1 [
+        | inl init ↦ inr (k.stands.method, k.stands.at.in_program, init, written.0)
+        | inr locks ↦ inl (subst (λ (class : ℕ). IsHeld (class_object c.program (file_of_class class)) held) written.0 (holds_class c marked f fs held k.stands stands locks))
+      ]
 
   pub final_static_top : FinalStaticLaw → (g : IsFrozenStatic c.program fi) → IsOfClassInit c g.field.class (f ∷ fs)
   final_static_top law g =
@@ -77,33 +73,30 @@ module _ (c : MarkedProgram) (marked : IsMarked c) (fi : ℕ) (f : Frame) (fs : 
 
 -- ---- the thread whose top frame it is
 
-by_top : (c : MarkedProgram) (held : List Held) (IsSuch : Frame → Type 0) (P : List Frame → Type 0) → ((f : Frame) (fs : List Frame) → Stands c phases.Run (f ∷ fs) held None → IsSuch f → P (f ∷ fs))
-    → (fs : List Frame) → Stands c phases.Run fs held None → TopWrites IsSuch fs → P fs
+by_top : (c : MarkedProgram) (held : List Held) (IsSuch : Frame → Type 0) (P : List Frame → Type 0) → ((f : Frame) (fs : List Frame) → Stands c Run (f ∷ fs) held None → IsSuch f → P (f ∷ fs))
+    → (fs : List Frame) → Stands c Run fs held None → TopWrites IsSuch fs → P fs
 by_top c held IsSuch P each [] stands k = absurd k
 by_top c held IsSuch P each (f ∷ fs) stands k = each f fs stands k
 
 module _ (c : MarkedProgram) (was : Phase) (x : Thread) (structured : IsStructured c was x) (outside : x.attempt ≡ None) (IsSuch : Frame → Type 0) (k : IsWriter IsSuch x) where
-  stands_running : Stands c phases.Run x.frames x.held None
-  stands_running =
-      let running : IsStructured c was (record x { phase = phases.Run }) = subst (λ (phase : Phase). IsStructured c was (record x { phase = phase })) k.runs structured in
-      subst (λ (a : Option Attempt). Stands c phases.Run x.frames x.held a) outside (subst (λ (phase : Phase). Stands c phase x.frames x.held x.attempt) running.is_as structured.stands)
-
-  pub by_writer : (P : List Frame → Type 0) → ((f : Frame) (fs : List Frame) → Stands c phases.Run (f ∷ fs) x.held None → IsSuch f → P (f ∷ fs)) → P x.frames
-  by_writer P each = by_top c x.held IsSuch P each x.frames stands_running k.top
+  pub by_writer : (P : List Frame → Type 0) → ((f : Frame) (fs : List Frame) → Stands c Run (f ∷ fs) x.held None → IsSuch f → P (f ∷ fs)) → P x.frames
+  by_writer P each =
+      let is_run : was ≡ Run = subst (λ (phase : Phase). IsAs phase was) k.runs structured.is_as in
+      by_top c x.held IsSuch P each x.frames (subst (λ (a : Option Attempt). Stands c Run x.frames x.held a) outside (subst (λ (phase : Phase). Stands c phase x.frames x.held x.attempt) is_run structured.stands)) k.top
 
 -- ---- the thread that stores an element
 
 module _ (c : MarkedProgram) (was : Phase) (x : Thread) (structured : IsStructured c was x)
     (outside : x.attempt ≡ None) (o : Object) (word : ℕ) (k : StoresElement c o word x) where
   -- it stands as before its instruction
-  stands_before : Stands c phases.Run x.frames x.held None
+  stands_before : Stands c Run x.frames x.held None
   stands_before =
-      let storing : IsStructured c was (record x { phase = phases.Element word (Some k.value) }) =
+      let storing : IsStructured c was (record x { phase = Element word (Some k.value) }) =
       subst (λ (phase : Phase). IsStructured c was (record x { phase = phase })) k.stores
       structured in
-      let stands : Stands c (phases.Element word (Some k.value)) x.frames x.held None =
+      let stands : Stands c (Element word (Some k.value)) x.frames x.held None =
       subst (λ (a : Option Attempt). Stands c
-      (phases.Element word (Some k.value)) x.frames x.held a) outside
+      (Element word (Some k.value)) x.frames x.held a) outside
       (subst (λ (phase : Phase). Stands c phase x.frames x.held x.attempt) storing.is_as
       structured.stands) in
       record {
@@ -164,30 +157,22 @@ module _ (laws : GuardLaws) (turn : BuiltEvent) (outside : turn.x.attempt ≡ No
   makes_class : (fi class : ℕ) → IsWriter (StaticWriter c fi) x → IsOfClassInit c class x.frames → MakesClass c class s x
   makes_class fi class k init = alone c cfg s t class x facts.threads facts.class_inits there k.runs init
 
-  element_changed : (fi word : ℕ) (o : Object) → Contains objects o → IsOwnedArrayField c.program (tags_of c) fi → IsElementOf c own.stores objects fi o word → ChangesWord word s (event c s t) → HoldsMonitor o.reference x ⊎ MakesObject c o.reference x.frames
-  element_changed fi word o here g e changes = elim (element_writer decided turn fi word o here g e) [
-    | inl still ↦ absurd (changes (ap (λ (ws : List ℕ). slice_index ws word) words ∙ still))
-    | inr k ↦ element_stored c (was t) x structured outside o word k marked element_write
-  ]
-
-  static_changed : (fi : ℕ) (g : IsGuardedStatic c.program (tags_of c) fi) → IsWriter (StaticWriter c fi) x → HoldsMonitor (class_monitor c g.field) x ⊎ MakesClass c g.field.class s x
-  static_changed fi g k = elim (by_writer c (was t) x structured outside (StaticWriter c fi) k (λ fs. IsHeld (class_monitor c g.field) x.held ⊎ IsOfClassInit c g.field.class fs)
-      (λ f fs stands k. guarded_static_top c marked fi f fs x.held stands k static_write g)) [ inl holds ↦ inl holds | inr init ↦ inr (makes_class fi g.field.class k init) ]
-
-  final_changed : (fi : ℕ) (g : IsFrozenStatic c.program fi) → IsWriter (StaticWriter c fi) x → MakesClass c g.field.class s x
-  final_changed fi g k =
-      makes_class fi g.field.class k (by_writer c (was t) x structured outside (StaticWriter c fi) k (IsOfClassInit c g.field.class) (λ f fs stands k. final_static_top c marked fi f fs x.held stands k static_final g))
-
   guards_kept : KeepsGuards c own.stores objects s (event c s t) x
   guards_kept = record {
     guarded = λ fi o here g k.
         by_writer c (was t) x structured outside (Writer c fi o.reference) (writer fi o here k g.field g.is g.instance) (λ fs. IsHeld o.reference x.held ⊎ MakesObject c o.reference fs)
         (λ f fs stands k. guarded_top c marked fi o.reference f fs x.held stands k write g);
-    elements = λ fi word o here g e changes. element_changed fi word o here g e changes;
-    statics = λ fi g changes. static_changed fi g (on_class fi g.field g.is g.static changes);
+    elements = λ fi word o here g e changes. elim (element_writer decided turn fi word o here g e) [
+      | inl still ↦ absurd (changes (ap (λ (ws : List ℕ). slice_index ws word) words ∙ still))
+      | inr k ↦ element_stored c (was t) x structured outside o word k marked element_write
+    ];
+    statics = λ fi g changes. let k = on_class fi g.field g.is g.static changes in
+        elim (by_writer c (was t) x structured outside (StaticWriter c fi) k (λ fs. IsHeld (class_monitor c g.field) x.held ⊎ IsOfClassInit c g.field.class fs)
+        (λ f fs stands k. guarded_static_top c marked fi f fs x.held stands k static_write g)) [ inl holds ↦ inl holds | inr init ↦ inr (makes_class fi g.field.class k init) ];
     frozen = λ fi o here g k.
         by_writer c (was t) x structured outside (Writer c fi o.reference) (writer fi o here k g.field g.is g.instance) (MakesObject c o.reference) (λ f fs stands k. frozen_top c marked fi o.reference f fs x.held stands k final g);
-    frozen_statics = λ fi g changes. final_changed fi g (on_class fi g.field g.is g.static changes);
+    frozen_statics = λ fi g changes. let k = on_class fi g.field g.is g.static changes in
+        makes_class fi g.field.class k (by_writer c (was t) x structured outside (StaticWriter c fi) k (IsOfClassInit c g.field.class) (λ f fs stands k. final_static_top c marked fi f fs x.held stands k static_final g));
   }
 
 pub events_keep_guards : GuardLaws → EventsKeepGuards

@@ -2,7 +2,7 @@
 use Rattle.std.proofs.Common.{◌≡◌, ℕ, ◌+◌, ◌<◌, inl, inr, Bool, true, false, List, [], ◌∷◌, length, Option, Some, None, refl, sym, ap, ◌∙◌, subst, arith, ◌==◌, if◌then◌else◌}
 use Rattle.std.proofs.lemmas.Bool.{cases_Bool}
 use Rattle.lists.proofs.ListLaws.{same_some}
-use Rattle.jvm_types.specs.{ProgramInvariant.words_of, Verifying.edges, declared.{code.Op.Op, outcome.Thrown.Thrown, program.{FieldInfo.FieldInfo, Kind.Kind, Target.Target}}}
+use Rattle.jvm_types.specs.{ProgramInvariant.words_of, Verifying.edges, declared.{code.Op.{Op, TheVariants.Putfield}, outcome.Thrown.Thrown, program.{FieldInfo.FieldInfo, Kind.Kind, Target.Target}}}
 use Rattle.checked_program.specs.{MarkedProgram.{MarkedProgram, IsMarked}, OwnedArrays.IsOwnedArrayField}
 use Rattle.machine_types.specs.{Construction.{puts_owned, Runs}, Effects.{effect, puts, kept, variable_of}, Elision.put_back, Frames.{Top, top_of, effect_at, went_on, making}, Going.goes_on}
 use Rattle.machine_types.specs.{Instructions.printed, Onward.{Onward, Running, threw, done}, OwnedPlaces.{Stores, with_stored, IsStoredNowhere}, Standing.{row_at, tags_of}, Structure.{Stands, AttemptStandsIn}, Threads.{Frame, Attempt, Thread}}
@@ -16,7 +16,6 @@ use Rattle.laws_objects.proofs.{Onwards.{OnwardKeeps, IfKeeps, FoundOld, FoundSt
 use Rattle.laws_objects.proofs.StoredArrays.{PutsOwned, stores_it, is_new, unstored, later_finished}
 use Rattle.laws_objects.proofs.{ThreadMoves.{Moved, AreKnown, AttemptFrom, from_same, now_world, held_known, in_none, runs_to, onward_moves, moved_more, moved_more_to}, Views.finished_on}
 use Rattle.laws_objects.proofs.WorldChanges.{none_from, finished_known, goes_given, world_given, lost_given}
-use Rattle.jvm_types.specs.declared.code.Op.TheVariants as ops
 use Rattle.jvm_types.specs.declared.outcome.Thrown.TheVariants as thrown
 use Rattle.jvm_types.specs.declared.program.Target.TheVariants as targets
 use Rattle.machine_types.specs.declared.phase.Phase.TheVariants as phases
@@ -110,11 +109,8 @@ module _ (moving : Moving) (is : Classes) where
     fits_as : (e : Effect) → effect_at c.program at ≡ e → FitsOp e a.keeps.stands.insn.op
     fits_as e same = subst (λ (e : Effect). FitsOp e a.keeps.stands.insn.op) same (fits_op (sees moving) a.frame a.below a.keeps a.waits)
 
-    none : IsOutside (effect_at c.program at) → x.attempt ≡ None
-    none out = none_outside c marked x at (subst (λ (phase : Phase). Stands c phase x.frames x.held x.attempt) is_run stood.stands) (subst (λ (phase : Phase). AttemptStandsIn c phase x.frames x.held x.attempt) is_run stood.attempt) (top_is got a) out
-
     none_as : (e : Effect) → effect_at c.program at ≡ e → IsOutside e → x.attempt ≡ None
-    none_as e same out = none (subst IsOutside (sym same) out)
+    none_as e same out = none_outside c marked x at (subst (λ (phase : Phase). Stands c phase x.frames x.held x.attempt) is_run stood.stands) (subst (λ (phase : Phase). AttemptStandsIn c phase x.frames x.held x.attempt) is_run stood.attempt) (top_is got a) (subst IsOutside (sym same) out)
 
     -- ---- it goes on, within the structure that it has
 
@@ -124,12 +120,6 @@ module _ (moving : Moving) (is : Classes) where
 
     outside_keeps : (o : Onward) → x.attempt ≡ None → (a : Attempt) → x.attempt ≡ Some a → KeepsEntry a x.frames o
     outside_keeps o none a some = absurd (let bad : None ≡ Some a = sym none ∙ some in cc)
-
-    does_plain : (e : Effect) (o : Onward) → puts_owned owning.owned a.keeps.stands.insn.op a.keeps.stands.target ≡ false → effect_at c.program at ≡ e → done c.program at e got ≡ Some o → StaysStructured c was (goes_on s o) → Goal (goes_on s o)
-    does_plain e o plain same d stands = onward s o refl refl stands (λ b some. steps_kept c.program x.frames b at e got o (top_is got a) d)
-        (subst (IfKeeps (in_world building k.now)) d
-        (does_it (sees moving) a.frame a.below a.keeps a.waits is e got plain (allowed_as e same) (built_as e same plain) (clean_as e same) (fits_as e same)
-        (subst (λ (e : Effect). FoundOld (sees moving) is a.keeps.stands.target e got) same a.found) (subst (λ (e : Effect). FoundStored (sees moving) is a.frame a.keeps.stands e got) same a.stored)))
 
     -- ---- a new array is stored in an owned field
 
@@ -145,12 +135,12 @@ module _ (moving : Moving) (is : Classes) where
       pub finished : moves.later array ≡ None
 
     -- a `putfield` of an owned field
-    put_names : (op : Op) (target : Target) → puts_owned owning.owned op target ≡ true → (index fi : ℕ) × (op ≡ ops.Putfield index) × (target ≡ targets.Field fi) × (owning.owned fi ≡ true)
-    put_names (ops.Putfield index) (targets.Field fi) e = (index, fi, refl, refl, e)
+    put_names : (op : Op) (target : Target) → puts_owned owning.owned op target ≡ true → (index fi : ℕ) × (op ≡ Putfield index) × (target ≡ targets.Field fi) × (owning.owned fi ≡ true)
+    put_names (Putfield index) (targets.Field fi) e = (index, fi, refl, refl, e)
     put_names op target e = absurd (let bad : false ≡ true = e in cc)
 
     -- what it stores is on the top
-    put_stack : (index fi : ℕ) (v : Variable) (put : ℕ) → a.keeps.stands.insn.op ≡ ops.Putfield index → a.keeps.stands.target ≡ targets.Field fi → owning.owned fi ≡ true → effect_at c.program at ≡ Writes v put → (array : ℕ) × (rest : List ℕ) × (a.frame.stack ≡ array ∷ rest) × (put ≡ array)
+    put_stack : (index fi : ℕ) (v : Variable) (put : ℕ) → a.keeps.stands.insn.op ≡ Putfield index → a.keeps.stands.target ≡ targets.Field fi → owning.owned fi ≡ true → effect_at c.program at ≡ Writes v put → (array : ℕ) × (rest : List ℕ) × (a.frame.stack ≡ array ∷ rest) × (put ≡ array)
     put_stack index fi v put op target owned same = by_stack a.frame.stack refl (sym moved ∙ same)
       where
         own : IsOwnedArrayField c.program (tags_of c) fi
@@ -192,7 +182,10 @@ module _ (moving : Moving) (is : Classes) where
     pub does_as : ((v : Variable) (put : ℕ) → effect_at c.program at ≡ Writes v put → puts_owned owning.owned a.keeps.stands.insn.op a.keeps.stands.target ≡ false) → (e : Effect) (o : Onward) → effect_at c.program at ≡ e → done c.program at e got ≡ Some o → StaysStructured c was (goes_on s o) → Goal (goes_on s o)
     does_as stores_none_here e o same d stands = elim (cases_Bool (puts_owned owning.owned a.keeps.stands.insn.op a.keeps.stands.target)) [
       | inl puts ↦ by_effect e same d puts (fits_as e same)
-      | inr plain ↦ does_plain e o plain same d stands
+      | inr plain ↦ onward s o refl refl stands (λ b some. steps_kept c.program x.frames b at e got o (top_is got a) d)
+          (subst (IfKeeps (in_world building k.now)) d
+          (does_it (sees moving) a.frame a.below a.keeps a.waits is e got plain (allowed_as e same) (built_as e same plain) (clean_as e same) (fits_as e same)
+          (subst (λ (e : Effect). FoundOld (sees moving) is a.keeps.stands.target e got) same a.found) (subst (λ (e : Effect). FoundStored (sees moving) is a.frame a.keeps.stands e got) same a.stored)))
     ]
       where
         never : (e : Effect) → FitsOp e a.keeps.stands.insn.op → puts_owned owning.owned a.keeps.stands.insn.op a.keeps.stands.target ≡ true → is_putfield a.keeps.stands.insn.op ≡ false → ⊥

@@ -1,14 +1,13 @@
 -- The moves of a thread, but those of an instruction and of a root, keep what construction says of it.
 use Rattle.std.proofs.Common.{◌≡◌, ℕ, ◌+◌, ◌-◌, inl, inr, Bool, true, false, List, [], ◌∷◌, ◌++◌, length, Option, Some, None, refl, sym, ap, ◌∙◌, subst, arith, ◌==◌, nat_lt, option_map, if◌then◌else◌}
 use Rattle.std.proofs.lemmas.Bool.{cases_Bool, eqb-true, eqb-false}
-use Rattle.jvm_types.specs.{CodeTable.{row, branches_to, falls_through}, declared.{code.Op.Op, outcome.End.End, program.{MethodInfo.MethodInfo, Program.Program}}}
-use Rattle.jvm_types.specs.declared.program.Target.{Target}
+use Rattle.jvm_types.specs.{CodeTable.{row, branches_to, falls_through}, declared.{code.Op.Op, outcome.End.End, program.{MethodInfo.MethodInfo, Program.Program, Target.Target}}}
 use Rattle.machine_types.specs.{Construction.{Runs, made_world}, Elision.{fails, elided}, Frames.{went_on, top_of, pushed, Top, handler_at}}
 use Rattle.machine_types.specs.{Going.{with_phase, runs, failed_turn, goes_on, goes_on_if, goes_after}, HeldMonitors.{held_at, with_held, without_held, deeper, shallower}, Ints.low}
-use Rattle.machine_types.specs.{Monitors.{HasNot, claim, takes, lets_go, fattens, goes_to_wait, retakes, lowest_of}, Onward.{Onward, Running, after, handed}, OwnedPlaces.IsStoredNowhere, ReadyObjects.class_of}
-use Rattle.machine_types.specs.{Structure.{Stands, AttemptStandsIn, IsPhaseInside, IsLimitAt, TopIs, AfterShows, is_element_op, IsAs}, Threads.{Frame, Attempt, Thread}, Words.value_word}
-use Rattle.machine_types.specs.{Worlds.{Item, Header, Builder, builder, World, IsFinished, IsOwnOrFinished, IsViewOf, with_builder, finished}, declared.lock.{Held.Held, Kept.Kept}}
-use Rattle.machine_types.specs.declared.{effect.Effect.TheVariants.Goes, phase.{After.After, Phase.Phase, Toward.Toward}}
+use Rattle.machine_types.specs.{Monitors.{HasNot, claim, takes, lets_go, fattens, goes_to_wait, retakes, lowest_of}, Onward.{Onward, Running, after, handed}, OwnedPlaces.IsStoredNowhere}
+use Rattle.machine_types.specs.{ReadyObjects.class_of, Structure.{Stands, AttemptStandsIn, IsPhaseInside, IsLimitAt, TopIs, AfterShows, is_element_op, IsAs}, Threads.{Frame, Attempt, Thread}}
+use Rattle.machine_types.specs.{Words.value_word, Worlds.{Item, Header, Builder, builder, IsFinished, IsOwnOrFinished, with_builder, finished}, declared.effect.Effect.TheVariants.Goes}
+use Rattle.machine_types.specs.declared.{lock.{Held.Held, Kept.{Kept, TheVariants.Fat}}, phase.{After.After, Phase.Phase, Toward.{Toward, TheVariants.{Leave, Wait}}}}
 use Rattle.laws_threads.{specs.{Allowed.OneOf, EntryFrames.KeepsEntry, StructureLaws.{StaysStructured, counted_by, turned_from}}, proofs.{EntryKept.{steps_kept, throws_kept, leaves_kept}, Landing.stand_top}}
 use Rattle.laws_threads.proofs.{MonitorEntries.none_tried, ThreadMove.{Looks, LeadsTo, TurnsTo, Takes, GivesUp, begun_attempt, counting, takes_in, gives_up_in}, Turns.outside as none_outside}
 use Rattle.laws_objects.proofs.{Buildings.{LawfulBuilding, Moving, in_world, FramesIn, MadeIn, sees}, BuiltEffects.RowOld, CountedPhases.{PhaseFits, counted_fits}, EffectOps.IsUsual, Moves.Steps}
@@ -18,9 +17,7 @@ use Rattle.laws_objects.proofs.WorldChanges.{none_some, goes_same, goes_given, g
 use Rattle.jvm_types.specs.declared.code.Op.TheVariants as ops
 use Rattle.jvm_types.specs.declared.outcome.End.TheVariants as ends
 use Rattle.jvm_types.specs.declared.outcome.Thrown as outcomes
-use Rattle.machine_types.specs.declared.lock.Kept.TheVariants as keeps
 use Rattle.machine_types.specs.declared.phase.Phase.TheVariants as phases
-use Rattle.machine_types.specs.declared.phase.Toward.TheVariants as towards
 use Rattle.laws_threads.proofs.ThreadMove as moves
 
 -- ---- an element
@@ -65,17 +62,6 @@ module _ (lawful : LawfulBuilding) where
         }
       ]) k.keep
 
--- ---- what is a thread's own or finished as it sees the world is so in the world
-
-known_back : (w now : World) (next t : ℕ) (o : Option Attempt) (v : ℕ) → IsViewOf now w t o → IsOwnOrFinished now next t v → IsOwnOrFinished w next t v
-known_back w now next t o v view k = (
-  k.0,
-  λ b e. elim (cases_Bool (b.thread == t)) [
-    | inl s ↦ eqb-true b.thread t s
-    | inr s ↦ k.1 b (view.others v (λ d f. (let same : b ≡ d = cc in λ q. eqb-false b.thread t s (ap (λ (x : Builder). x.thread) same ∙ q))) ∙ e)
-  ],
-)
-
 -- ---- phases
 
 module _ (moving : Moving) where
@@ -102,8 +88,15 @@ module _ (moving : Moving) where
   pub held : AreKnown w next t x.held
   held = held_known building was x k is_world
 
+  -- what is a thread's own or finished as it sees the world is so in the world
   back : (v : ℕ) → IsOwnOrFinished k.now next t v → IsOwnOrFinished w next t v
-  back v o = known_back w k.now next t x.attempt v k.now_is o
+  back v o = (
+    o.0,
+    λ b e. elim (cases_Bool (b.thread == t)) [
+      | inl s ↦ eqb-true b.thread t s
+      | inr s ↦ o.1 b (k.now_is.others v (λ d f. (let same : b ≡ d = cc in λ q. eqb-false b.thread t s (ap (λ (x : Builder). x.thread) same ∙ q))) ∙ e)
+    ],
+  )
 
   also : (y : Thread) → Moved building k.now next (counted_by was y.phase) y → Goal y
   also y m = moved_more building k.now more (counted_by was y.phase) y is_world grows m
@@ -198,9 +191,9 @@ module _ (moving : Moving) where
     leads_as phase _ (moves.to_take m count look f) e = changed (phases.Take m count) (looks_fit m phase look e).0
     leads_as phase _ (moves.to_take_fat m r look f) e = changed (phases.TakeFat m r) (looks_fit m phase look e).0
     leads_as _ _ (moves.from_flag m u) e = changed (phases.Acquire m) (fits (phases.Flag m u) e)
-    leads_as _ _ (moves.to_grow m count a h f last l) e = changed (phases.Grow m (towards.Leave a)) (fits (phases.Leave m a) e)
+    leads_as _ _ (moves.to_grow m count a h f last l) e = changed (phases.Grow m (Leave a)) (fits (phases.Leave m a) e)
     leads_as _ _ (moves.to_own m toward f) e = changed (phases.Own m got toward) (fits (phases.Grow m toward) e)
-    leads_as _ _ (moves.to_flat_out m a f) e = changed (phases.FlatOut m a) (fits (phases.Grow m (towards.Leave a)) e)
+    leads_as _ _ (moves.to_flat_out m a f) e = changed (phases.FlatOut m a) (fits (phases.Grow m (Leave a)) e)
     leads_as _ _ (moves.to_no_record m f) e = to was (with_phase s (phases.Ending ends.Records)) refl (from_same x.attempt) held (k.frames, k.phase)
     leads_as _ _ (moves.to_fat_in m r toward) e = changed (phases.FatIn m r toward) (fits (phases.Own m r toward) e)
     leads_as _ _ (moves.to_wait_out m r) e = changed (phases.WaitOut m r) (fits (phases.WaitBit m r) e)
@@ -278,8 +271,8 @@ module _ (moving : Moving) where
     fattens_as m r toward h f e =
         let own : IsOwnOrFinished w next t h.monitor = known_at w next t m x.held h held f in
         (elim toward as (λ (toward : Toward). Fits (phases.FatIn m r toward) → Goal (fattens s m r toward (Some h))) [
-          | towards.Leave a ↦ λ fit. to (phases.Leave m a) (fattens s m r (towards.Leave a) (Some h)) refl (from_same x.attempt) (known_with w next t (record h { kept = keeps.Fat r }) x.held own held) fit
-          | towards.Wait ↦ λ fit. to (phases.WaitBit m r) (fattens s m r towards.Wait (Some h)) refl (from_same x.attempt) (known_with w next t (record h { kept = keeps.Fat r }) x.held own held) (fit.0, fit.1.0)
+          | Leave a ↦ λ fit. to (phases.Leave m a) (fattens s m r (Leave a) (Some h)) refl (from_same x.attempt) (known_with w next t (record h { kept = Fat r }) x.held own held) fit
+          | Wait ↦ λ fit. to (phases.WaitBit m r) (fattens s m r Wait (Some h)) refl (from_same x.attempt) (known_with w next t (record h { kept = Fat r }) x.held own held) (fit.0, fit.1.0)
         ]) (fits (phases.FatIn m r toward) e)
 
     pub waits_as : (m r : ℕ) (h : Held) → was ≡ phases.WaitOut m r → Goal (goes_to_wait s m r (Some h))
@@ -288,5 +281,5 @@ module _ (moving : Moving) where
     pub retakes_as : (m r depth : ℕ) → was ≡ phases.Retake m r depth → Goal (retakes s m r depth)
     retakes_as m r depth e =
         let fit = fits (phases.Retake m r depth) e in
-        let h : Held = record { monitor = m; kept = keeps.Fat r; depth = depth } in
+        let h : Held = record { monitor = m; kept = Fat r; depth = depth } in
         runs_as (record s { held = with_held h s.held }) refl (from_same x.attempt) (known_with w next t h x.held (back m fit.1) held) (fit.0, tt)

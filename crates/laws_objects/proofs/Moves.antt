@@ -3,9 +3,8 @@ use Rattle.std.proofs.Common.{◌++◌, length, map, drop, ◌≡◌, ◌≢◌,
 use Rattle.std.{specs.List.AllByRecursion, proofs.lemmas.Bool.{cases_Bool, or_parts, eqb-true, eqb-false}}
 use Rattle.lists.proofs.TestLaws.{is_true}
 use Rattle.jvm_types.specs.{CodeTable.{row, value_of, stack_after, locals_after}, Numbers.has_number, Types.{TypeFrame, same_type}}
-use Rattle.jvm_types.specs.{Verifying.{suits, some_taken, some_read, new_class, is_class_of, started, initialised, after_start, frame_after, edges}, declared.{code.Op.Op, op_row.OpRow.OpRow}}
-use Rattle.jvm_types.specs.declared.{op_row.{Given.Given, Want.{Want, TheVariants.ToStart}}, program.{MethodInfo.MethodInfo, Program.Program, Target.Target}}
-use Rattle.jvm_types.specs.declared.typing.VType.{VType}
+use Rattle.jvm_types.specs.{Verifying.{suits, some_taken, some_read, new_class, is_class_of, started, initialised, after_start, frame_after, edges}, declared.{code.Op.Op, op_row.Given.Given}}
+use Rattle.jvm_types.specs.declared.{op_row.{OpRow.OpRow, Want.{Want, TheVariants.ToStart}}, program.{MethodInfo.MethodInfo, Program.Program, Target.Target}, typing.VType.VType}
 use Rattle.checked_program.specs.{LockTags.TagShape, MarkedProgram.{MarkedProgram, IsMarked}, Tagging.{moved_tags, tags_by_op, tags_after}, declared.tag.Tag.{Tag, TheVariants.{Untagged, At}}}
 use Rattle.machine_types.specs.{Construction.{puts_owned, builds, makes_frozen, if_so, SlotByType, SlotIs, SlotsAre, StackWith, Runs, IsFresh, ReceiverIs, SlotOf}, Frames.frame_on}
 use Rattle.machine_types.specs.{Lawful.within, Standing.{Standing, row_at}, Threads.Frame, Worlds.{Lost, Made, Begun, Unstored, Builder, builder, World, IsFinished, IsWorld, GoesOn}}
@@ -53,10 +52,8 @@ module _ (m : MethodInfo) (young : ℕ → Bool) where
   starts wants ts h = inl tt
 
 pub is_start : (m : MethodInfo) (young : ℕ → Bool) (o : Option (VType × ℕ)) → Starts m young o → IsStart o
-is_start m young None s = tt
 is_start m young (Some (types.This, class)) s = tt
-is_start m young (Some (types.New q, class)) s = tt
-is_start m young o (inl s) = absurd s
+is_start m young o (inl s) = assumption
 is_start m young o (inr y) = subst IsStart (sym y.is) tt
 
 pub suit_at : (c : MarkedProgram) (marked : IsMarked c) (f : Frame) (k : Standing c f) → Suit k.method (row_at c f k).takes k.types.stack
@@ -94,12 +91,6 @@ module _ (Old : ℕ → Type 0) (null : Old 0) (Fresh : ℕ → ℕ → Type 0) 
   abbrev pub RowMakes : OpRow → (made : ℕ) → Type 0
   RowMakes r made = AllByRecursion (IsMade R made) r.gives × IsWriteMade R made r.writes
 
-  pub row_moves : (r : OpRow) (made : ℕ) (ts ls : List VType) (f : TagShape) (vs us : List ℕ) → SlotsAre R ts f.stack vs → SlotsAre R ls f.locals us → RowMakes r made
-      → TagsFine (stack_after types.Top (λ t. t) r ts ls) (locals_after types.Top (λ t. t) r.writes ts ls) (stack_after 0 (λ t. made) r vs us) (locals_after 0 (λ t. made) r.writes vs us) (moved_tags r f)
-  row_moves r made ts ls f vs us s l h =
-      let top = top_slot Old null Fresh own young receiver own in
-      (stack_moves R top made ts ls f.stack f.locals vs us s l r h.0, local_moves R top made ts ls f.stack f.locals vs us s l r.writes h.1)
-
   -- ---- what is started, in the same world
 
   pub start_ok : (b : Bool) (o : VType) (class : ℕ) → StartsOld young (Some (o, class)) → StartOk Old null Fresh own young receiver b o
@@ -133,15 +124,13 @@ module _ (Old More : ℕ → Type 0) (Fresh Later : ℕ → ℕ → Type 0) (you
   type_finished class (types.New r) v f = new_finished class r v (q == r) refl (young r) refl f
   type_finished class u v f = first_of (assumption, search old)
 
-  not_this_after : (class : ℕ) (u : VType) → u ≢ types.This → after_type class u ≢ types.This
-  not_this_after class u n = elim (same_type (types.New q) u) as (λ (b : Bool). (if b then types.Ref class else u) ≢ types.This) [ true ↦ λ e. cc | false ↦ n ]
-
-  slot_finished : (class receiver : ℕ) (own : Bool) (u : VType) (g : Tag) (v : ℕ) → SlotIs Old Fresh own young receiver u g v → SlotIs More Later own young receiver (after_type class u) g v
-  slot_finished class receiver own u g v f = slot_by Old More Fresh Later young receiver own u (after_type class u) g v (not_this_after class u) (type_finished class u v) f
-
   pub slots_finished : (class receiver : ℕ) (own : Bool) (us : List VType) (gs : List Tag) (vs : List ℕ) → SlotsAre (SlotIs Old Fresh own young receiver) us gs vs → SlotsAre (SlotIs More Later own young receiver) (initialised (types.New q) class us) gs vs
   slots_finished class receiver own [] [] [] f = tt
-  slots_finished class receiver own (u ∷ us) (g ∷ gs) (v ∷ vs) f = (slot_finished class receiver own u g v f.0, slots_finished class receiver own us gs vs f.1)
+  slots_finished class receiver own (u ∷ us) (g ∷ gs) (v ∷ vs) f = (
+    slot_by Old More Fresh Later young receiver own u (after_type class u) g v (λ n. elim (same_type (types.New q) u) as (λ (b : Bool). (if b then types.Ref class else u) ≢ types.This) [ true ↦ λ e. cc | false ↦ n ])
+        (type_finished class u v) f.0,
+    slots_finished class receiver own us gs vs f.1,
+  )
   slots_finished class receiver own us gs vs f = absurd f
 
 -- a receiver that is no such object
@@ -224,7 +213,12 @@ module _ (building : Building) (h : ℕ) (null : IsFinished building.w building.
 
     moved : Row → SlotsAre (SlotOf frozen w next t h Runs m f.receiver) (stack_after types.Top (λ t. t) r k.stands.types.stack k.stands.types.locals) (moved_tags r k.stands.tags).stack (frame_on r to made f).stack
         × SlotsAre (SlotOf frozen w next t h Runs m f.receiver) (locals_after types.Top (λ t. t) r.writes k.stands.types.stack k.stands.types.locals) (moved_tags r k.stands.tags).locals (frame_on r to made f).locals
-    moved makes = row_moves (IsFinished w next) null (IsFresh w t h Runs) (builds frozen m) (makes_frozen frozen m) f.receiver r made k.stands.types.stack k.stands.types.locals k.stands.tags f.stack f.locals (plain_stack building h f k plain) k.locals makes
+    moved makes =
+        let R : VType → Tag → ℕ → Type 0 = SlotOf frozen w next t h Runs m f.receiver in
+        let top = top_slot (IsFinished w next) null (IsFresh w t h Runs) (builds frozen m) (makes_frozen frozen m) f.receiver (builds frozen m) in (
+          stack_moves R top made k.stands.types.stack k.stands.types.locals k.stands.tags.stack k.stands.tags.locals f.stack f.locals (plain_stack building h f k plain) k.locals r makes.0,
+          local_moves R top made k.stands.types.stack k.stands.types.locals k.stands.tags.stack k.stands.tags.locals f.stack f.locals (plain_stack building h f k plain) k.locals r.writes makes.1,
+        )
 
     -- in a world where the slots are of the types behind the instruction
     landed : (z : World) → IsFinished z next 0 → ReceiverIs z next t h (builds frozen m) f.receiver

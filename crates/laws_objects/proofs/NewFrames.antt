@@ -3,7 +3,7 @@ use Rattle.std.proofs.Common.{◌≡◌, ◌≢◌, ℕ, ◌<◌, ◌⊎◌, inl
 use Rattle.std.specs.List.{AllByRecursion}
 use Rattle.std.proofs.lemmas.Bool.{cases_Bool, eq-eqb}
 use Rattle.lists.proofs.ListLaws.{same_some}
-use Rattle.jvm_types.specs.{ProgramInvariant.words_of, CodeTable.{row, value_of, stack_after, locals_after}, Verifying.{started, frame_after, edges}, declared.{code.{Insn.Insn, Op.Op}, op_row.{Given.{Given, TheVariants.Fresh as Anew}}, program.{Target.Target}, typing.VType.VType}}
+use Rattle.jvm_types.specs.{ProgramInvariant.words_of, CodeTable.{row, value_of, locals_after}, Verifying.{started, frame_after, edges}, declared.{code.{Insn.Insn, Op.Op}, op_row.Given.{Given, TheVariants.Fresh as Anew}, program.Target.Target, typing.VType.VType}}
 use Rattle.laws_programs.{specs.NewLaws.{IsNewBefore, AreBehind}, proofs.RowsKeep.{IsFine, row_fine}}
 use Rattle.checked_program.specs.{LockTags.TagShape, MarkedProgram.MarkedProgram, TaggedCode.IsAt, Tagging.{moved_tags, tags_by_op}, declared.tag.Tag.{Tag, TheVariants.Untagged}}
 use Rattle.machine_types.specs.Construction.{puts_owned, builds, makes_frozen, if_so, SlotByType, SlotsAre, StackWith, Runs, IsFresh, ReceiverIs, SlotOf, IsNoStored, made_world}
@@ -52,9 +52,6 @@ module _ (lawful : LawfulBuilding) (more h : ℕ) (grows : lawful.next < more) (
   apart_from : (x : Item) → x ≢ Made pc → x ≢ Unstored → (y : Item) → item ≡ Some y → builder t h x ≢ builder t h y
   apart_from x n m y e s = let same : x ≡ y = ap (λ (b : Builder). b.item) s in elim (sort y e) [ inl is ↦ n (same ∙ is) | inr is ↦ m (same ∙ is) ]
 
-  fresh_made : (q v : ℕ) → q < pc → w v ≡ Some (builder t h (Made q)) → stored_world v ≡ Some (builder t h (Made q))
-  fresh_made q v l e = keeps v h (Made q) e (λ s. (let i : Made q ≡ Header = ap (λ (b : Builder). b.item) s in cc)) item (apart_from (Made q) (λ s. (let j : q ≡ pc = cc in omega (arith, j, l))) (λ s. cc))
-
   receiver_made : (own : Bool) (b : ℕ) → ReceiverIs w next t h own b → ReceiverIs stored_world more t h own b
   receiver_made true b e = keeps b h Begun e (λ s. (let i : Begun ≡ Header = ap (λ (b : Builder). b.item) s in cc)) item (apart_from Begun (λ s. cc) (λ s. cc))
   receiver_made false b e = old_made b e
@@ -63,7 +60,8 @@ module _ (lawful : LawfulBuilding) (more h : ℕ) (grows : lawful.next < more) (
   module _ (f : Frame) (k : FrameIn building h Runs f) (behind : AreBehind pc k.stands.types) (plain : puts_owned owning.owned k.stands.insn.op k.stands.target ≡ false) where
     moved : (us : List VType) (gs : List Tag) (vs : List ℕ) → AllByRecursion (IsNewBefore pc) us → SlotsAre (SlotOf frozen w next t h Runs k.stands.method f.receiver) us gs vs → SlotsAre (SlotOf frozen stored_world more t h Runs k.stands.method f.receiver) us gs vs
     moved = slots_map_if (IsNewBefore pc) (SlotOf frozen w next t h Runs k.stands.method f.receiver) (SlotOf frozen stored_world more t h Runs k.stands.method f.receiver)
-        (slot_if (IsFinished w next) (IsFinished stored_world more) (IsFresh w t h Runs) (IsFresh stored_world t h Runs) (IsNewBefore pc) old_made (makes_frozen frozen k.stands.method) (λ q v l young. fresh_made q v l) f.receiver (builds frozen k.stands.method))
+        (slot_if (IsFinished w next) (IsFinished stored_world more) (IsFresh w t h Runs) (IsFresh stored_world t h Runs) (IsNewBefore pc) old_made (makes_frozen frozen k.stands.method)
+        (λ q v l young e. keeps v h (Made q) e (λ s. (let i : Made q ≡ Header = ap (λ (b : Builder). b.item) s in cc)) item (apart_from (Made q) (λ s. (let j : q ≡ pc = cc in omega (arith, j, l))) (λ s. cc))) f.receiver (builds frozen k.stands.method))
 
     stack_renewed : SlotsAre (SlotOf frozen stored_world more t h Runs k.stands.method f.receiver) k.stands.types.stack k.stands.tags.stack f.stack
     stack_renewed = moved k.stands.types.stack k.stands.tags.stack f.stack behind.stack (plain_stack building h f k plain)
@@ -99,14 +97,8 @@ module _ (lawful : LawfulBuilding) (more h : ℕ) (grows : lawful.next < more) (
 
   module _ (f : Frame) (k : FrameIn building h Runs f) (type : VType) (edge : OneOf (edges k.stands.insn) k.stands.insn.next) (behind : AreBehind pc k.stands.types) (gives : (row_at c f k.stands).gives ≡ Anew type ∷ []) (writes : (row_at c f k.stands).writes ≡ None)
       (none : AllByRecursion StartsNone (row_at c f k.stands).takes) (plain : puts_owned owning.owned k.stands.insn.op k.stands.target ≡ false) where
-    stack_is : stack_after 0 (λ t. next) (row_at c f k.stands) f.stack f.locals ≡ next ∷ drop (length (row_at c f k.stands).takes) f.stack
-    stack_is = ap (λ (xs : List Given). map (value_of 0 (λ t. next) f.stack f.locals) xs ++ drop (length (row_at c f k.stands).takes) f.stack) gives
-
-    locals_are : locals_after 0 (λ t. next) (row_at c f k.stands).writes f.stack f.locals ≡ f.locals
-    locals_are = ap (λ (o : Option (ℕ × Given)). locals_after 0 (λ t. next) o f.stack f.locals) writes
-
     same : frame_on (row_at c f k.stands) k.stands.insn.next next f ≡ record f { pc = k.stands.insn.next; stack = next ∷ drop (length (row_at c f k.stands).takes) f.stack }
-    same = λ i. record f { pc = k.stands.insn.next; stack = stack_is i; locals = locals_are i }
+    same = λ i. record f { pc = k.stands.insn.next; stack = map (value_of 0 (λ t. next) f.stack f.locals) (gives i) ++ drop (length (row_at c f k.stands).takes) f.stack; locals = locals_after 0 (λ t. next) (writes i) f.stack f.locals }
 
     nothing : started k.stands.method.class (row_at c f k.stands).takes k.stands.types.stack ≡ None
     nothing = none_started k.stands.method.class (row_at c f k.stands).takes k.stands.types.stack none

@@ -2,13 +2,13 @@
 use Rattle.std.proofs.Common.{◌≡◌, ◌≢◌, ℕ, ◌<◌, Bool, true, false, List, [], ◌∷◌, length, Option, Some, None, refl, sym, ap, ◌∙◌, subst, arith, slice_get, option_map, if◌then◌else◌}
 use Rattle.lists.proofs.{ListLaws.{all_weaker, same_some}, TestLaws.first_true}
 use Rattle.jvm_types.specs.{ClassNames.file_of_class, CodeTable.{can_throw, row}, Members.{MethodSite, is_static, is_synchronized}, ProgramInvariant.{words_of, site_in}, Verifying.{edges, is_return}}
-use Rattle.jvm_types.specs.declared.{code.Op.Op, op_row.{Given.{Given, TheVariants.Fresh as Anew}, OpRow.OpRow}, outcome.Thrown.Thrown, program.FieldInfo.FieldInfo}
-use Rattle.jvm_types.specs.declared.{program.{MethodInfo.MethodInfo, Program.Program, Row.Row, Target.Target}, typing.VType.VType}
+use Rattle.jvm_types.specs.declared.{code.Op.{Op, TheVariants.Invokevirtual}, op_row.{Given.{Given, TheVariants.Fresh as Anew}, OpRow.OpRow}, outcome.Thrown.Thrown, program.FieldInfo.FieldInfo}
+use Rattle.jvm_types.specs.declared.{program.{MethodInfo.MethodInfo, Program.Program, Row.Row, Target.{Target, TheVariants.{Field, Method}}}, typing.VType.VType}
 use Rattle.laws_programs.specs.TargetLaws.{HasRow}
 use Rattle.checked_program.specs.{Marks.called_method, declared.tag.Tag.TheVariants.Untagged}
 use Rattle.machine_types.specs.Construction.{puts_owned, builds, makes_frozen, SlotByType, Runs, Throws as Loose, IsFresh, ReceiverIs, SlotOf, turn_by, AfterKeeps}
 use Rattle.machine_types.specs.Frames.{Top, effect_at, frame_on, went, went_on, waiting, has_room, entry_frame, arguments_of, monitor_of, given_back, given, returned, handler_of, handler_at}
-use Rattle.machine_types.specs.Onward.{Onward, Running, Throwing, Entering, Leaving, RootReturned, Uncaught, threw, entered, called, returns, back, unwound, handed, dispatched, after, done}
+use Rattle.machine_types.specs.Onward.{Onward, Running, Throwing, Entering, Leaving, RootReturned, Uncaught, threw, entered, called, back, unwound, handed, dispatched, after, done}
 use Rattle.machine_types.specs.{OwnedPlaces.{IsFieldWord, IsStoredAt, IsStoredNowhere}, ReadyObjects.{ready, class_of, thrown_of, out_object}, Standing.{Standing, row_at}, Structure.{TopIs, AfterShows, operands_after}, Threads.Frame, Typed.Classes}
 use Rattle.machine_types.specs.{Words.{header_class, header_length, class_object}, Worlds.{Begun, Builder, builder, World, IsFinished, IsOwnOrFinished, GoesOn}, declared.effect.{Effect.Effect, Variable.Variable}}
 use Rattle.machine_types.specs.declared.effect.Effect.TheVariants.{Goes, Throws, Reads, Writes, Measures, Raises, Prints, Calls, Returns, Enters, Leaves}
@@ -20,9 +20,7 @@ use Rattle.laws_objects.proofs.{BuiltEffects.{KindOld, TypeOld, GivenOld, RowOld
 use Rattle.laws_objects.proofs.{EffectOps.{FitsOp, IsUsual, is_putfield, effect_fits, names_a_field, stores_none, get_writes}, KeptFrames.{KeepsUnder, below_kept}, Moves.{RowMakes, Steps, stays, steps_map, goes}}
 use Rattle.laws_objects.proofs.{Operands.{is_getfield, no_read, no_getfield, takes_old}, PutPlaces.is_newarray, ReturnedFrames.{result_old, result_clean, resumes}, Slots.{IsMade, made_slot}}
 use Rattle.laws_objects.proofs.{ThrowingFrames.{frames_throw, frames_unwound, handled}, Views.finished_on, WorldChanges.finished_known}
-use Rattle.jvm_types.specs.declared.code.Op.TheVariants as ops
 use Rattle.jvm_types.specs.declared.outcome.Thrown.TheVariants as thrown
-use Rattle.jvm_types.specs.declared.program.Target.TheVariants as targets
 use Rattle.jvm_types.specs.declared.typing.VType.TheVariants as types
 
 -- ---- what is kept
@@ -111,16 +109,9 @@ module _ (lawful : LawfulBuilding) where
         below = b.1;
         stands = k.receiver;
         result = result;
-        old_result = (result_old building (length (g ∷ gs)) (null lawful) f k r);
+        old_result = result_old building (length (g ∷ gs)) (null lawful) f k r;
         clean_result = result_clean building (length (g ∷ gs)) (null lawful) f k r;
       }))
-
-  pub goes_out : (f : Frame) (fs : List Frame) (k : FrameIn building (length fs) Runs f) → BelowIn building f fs → is_return k.stands.insn.op ≡ true
-      → Steps w next t (λ z. OnwardKeeps (in_world building z) (returns c.program (top_here c f fs k.stands)))
-  goes_out f fs k b r =
-      either_way (λ (s : Bool). Steps w next t (λ z. OnwardKeeps (in_world building z) (if s then Leaving (monitor_of c.program k.stands.method f) Return (f ∷ fs) else back (returned c.program (top_here c f fs k.stands))))) (is_synchronized k.stands.method.flags)
-      (stays w next t (λ z. OnwardKeeps (in_world building z) (Leaving (monitor_of c.program k.stands.method f) Return (f ∷ fs)))
-      (monitor_known (length fs) f.method (builds frozen k.stands.method) k.stands.method f k.stands.at.in_program k.receiver, tt, (k, b))) (goes_below f fs k b r)
 
   -- ---- when a monitor was left
 
@@ -192,7 +183,7 @@ module _ (lawful : LawfulBuilding) where
     pub throws_it : (x : Thrown) → IsByMachine x → OnwardKeeps building (threw x at)
     throws_it x own = (first_finished w (words_of c.program) next (ready x) is_world (ready_first c.program x own), frames_throw building Runs (f ∷ fs) (k, b))
 
-    names : is_getfield k.stands.insn.op ≡ true → (number : ℕ) × (k.stands.target ≡ targets.Field number)
+    names : is_getfield k.stands.insn.op ≡ true → (number : ℕ) × (k.stands.target ≡ Field number)
     names e = names_a_field c.program (site_in k.stands.method) k.stands.insn.pc k.stands.target k.stands.insn.op r (rules_at c marked f k.stands).has_row (first_true (is_getfield k.stands.insn.op) (is_putfield k.stands.insn.op) e)
 
     pub built_here : puts_owned owning.owned k.stands.insn.op k.stands.target ≡ false → Built (IsFinished w next) c.program k.stands.target r (effect_at c.program at)
@@ -233,14 +224,12 @@ module _ (lawful : LawfulBuilding) where
         by_flag false = steps_map w next t (CallKeeps lawful f fs k b number m there calls (arguments_of c.program at)) (λ z. OnwardKeeps (in_world building z) (Running (entry_frame number m (arguments_of c.program at) ∷ waiting c.program at)))
             (λ z g p. p.0) (calls_it lawful f fs k b number m there calls)
 
-    call_named : (site : MethodSite) (pc number : ℕ) (op : Op) (target : Target) (row : OpRow) → HasRow c.program site pc target op row → target ≡ targets.Method number → called_method op target ≡ Some number
+    call_named : (site : MethodSite) (pc number : ℕ) (op : Op) (target : Target) (row : OpRow) → HasRow c.program site pc target op row → target ≡ Method number → called_method op target ≡ Some number
     call_named site pc number op target row h e = subst (λ (x : Target). called_method op x ≡ Some number) (sym e) (by_op op (subst (λ (x : Target). HasRow c.program site pc x op row) e h))
       where
-        by_op : (op : Op) → HasRow c.program site pc (targets.Method number) op row → called_method op (targets.Method number) ≡ Some number
-        by_op (ops.Invokevirtual i) h = refl
-        by_op (ops.Invokespecial i) h = refl
-        by_op (ops.Invokestatic i) h = refl
-        by_op op h = absurd (assumption)
+        by_op : (op : Op) → HasRow c.program site pc (Method number) op row → called_method op (Method number) ≡ Some number
+        by_op (Invokevirtual i) h = refl
+        by_op op h = first_of (cc, search h)
 
     raises_it : (x got : ℕ) (o : Option Thrown) → IsFinished w next x → IfKeeps building (option_map (λ class. Throwing x class (f ∷ fs)) o)
     raises_it x got None old = tt
@@ -278,7 +267,10 @@ module _ (lawful : LawfulBuilding) where
     does_it is (Prints n) got plain a built clean fits found stored = runs_usual k.stands.insn.next 0 a.0 fits built clean
     does_it is (Calls number) got plain a built clean fits found stored = subst (λ o. IfKeeps building (option_map (called c.program at number) o)) (sym a.2)
         (calls_keep number a.0 a.2 (call_named (site_in k.stands.method) k.stands.insn.pc number k.stands.insn.op k.stands.target r (rules_at c marked f k.stands).has_row a.1))
-    does_it is Returns got plain a built clean fits found stored = goes_out f fs k b a
+    does_it is Returns got plain a built clean fits found stored =
+        either_way (λ (s : Bool). Steps w next t (λ z. OnwardKeeps (in_world building z) (if s then Leaving (monitor_of c.program k.stands.method f) Return (f ∷ fs) else back (returned c.program at)))) (is_synchronized k.stands.method.flags)
+        (stays w next t (λ z. OnwardKeeps (in_world building z) (Leaving (monitor_of c.program k.stands.method f) Return (f ∷ fs)))
+        (monitor_known (length fs) f.method (builds frozen k.stands.method) k.stands.method f k.stands.at.in_program k.receiver, tt, (k, b))) (goes_below f fs k b a)
     does_it is (Enters m) got plain a built clean fits found stored = steps_map w next t (λ z. FramesIn (in_world building z) Runs (went_on c.program at 0)) (λ z. OnwardKeeps (in_world building z) (Entering m (went_on c.program at 0)))
         (λ z g p. (known_on m z g built.0, p)) (runs_usual k.stands.insn.next 0 a.0 fits built.1 clean.1)
     does_it is (Leaves m) got plain a built clean fits found stored = steps_map w next t (λ z. FramesIn (in_world building z) Runs (went_on c.program at 0)) (λ z. OnwardKeeps (in_world building z) (Leaving m Next (went_on c.program at 0)))

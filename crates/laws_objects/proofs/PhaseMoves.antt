@@ -2,8 +2,8 @@
 use Rattle.std.proofs.Common.{inl, inr, ◌≡◌, ℕ, ◌+◌, Bool, true, false, List, [], ◌∷◌, length, Option, Some, refl, sym, ap, ◌∙◌, subst, arith, drop, ◌==◌, slice_get, slice_index, if◌then◌else◌, IsTrue}
 use Rattle.std.{specs.List.{AllZip, AllByRecursion}, proofs.lemmas.Bool.{cases_Bool, eqb-true, eq-eqb, false_from_ne_true}}
 use Rattle.lists.proofs.ListLaws.{same_some}
-use Rattle.jvm_types.specs.{Members.is_static, Numbers.has_number, ProgramInvariant.site_in, Types.TypeFrame, declared.{code.Op.Op, fixed_words.TheConstants.NEXT_FREE_WORD, outcome.Thrown.Thrown, program.FieldInfo.FieldInfo}}
-use Rattle.jvm_types.specs.declared.program.{Kind.Kind, MethodInfo.MethodInfo, Target.Target}
+use Rattle.jvm_types.specs.{Members.is_static, Numbers.has_number, ProgramInvariant.site_in, Types.TypeFrame, declared.code.Op.{Op, TheVariants.{Getfield, Getstatic, Putstatic}}}
+use Rattle.jvm_types.specs.declared.{fixed_words.TheConstants.NEXT_FREE_WORD, outcome.Thrown.Thrown, program.{FieldInfo.FieldInfo, Kind.{Kind, TheVariants.Ref}, MethodInfo.MethodInfo, Target.Target}}
 use Rattle.laws_programs.{specs.TargetLaws.HasRow}
 use Rattle.checked_program.specs.{Colours.is_read_of, MarkedProgram.{MarkedProgram, IsMarked}, OwnedArrays.GetsOnThis, SectionLaws.HasThis}
 use Rattle.machine_types.specs.{Accesses.{found_by, words_after}, Bounds.{IsRooted, part_roots}, Construction.{puts_owned, Runs, KindKeeps, PlaceStores, PlacesKeep}}
@@ -19,9 +19,7 @@ use Rattle.laws_objects.proofs.{ArrayMoves.ReadsField, Buildings.{Moving, in_wor
 use Rattle.laws_objects.proofs.InstructionMoves.{Gets, KnownTop, known_top, by_top, does_as, refuses_as, nobody_as, prints_as, makes_as, waits_as, asks_as}
 use Rattle.laws_objects.proofs.MonitorMoves.{fits, stays_as, fails_as, throws_as, element_as, made_as, notified_as, leads_as, turned_as, again_as, inside_as, begins_as, takes_as, gives_up_as, outer_as, inner_as, elided_as, fattens_as, waits_as as waits_in, retakes_as}
 use Rattle.laws_objects.proofs.{Onwards.{FoundOld, FoundStored, fits_op}, PlaceWriters.{holder_of, instance_word, static_word}, RootMoves.starts_as, ThreadMoves.Moved, WorldChanges.none_some}
-use Rattle.jvm_types.specs.declared.code.Op.TheVariants as ops
 use Rattle.jvm_types.specs.declared.outcome.Thrown.TheVariants as outcomes
-use Rattle.jvm_types.specs.declared.program.Kind.TheVariants as kinds
 use Rattle.jvm_types.specs.declared.program.Target.TheVariants as targets
 use Rattle.machine_types.specs.declared.phase.Phase.TheVariants as phases
 use Rattle.laws_threads.proofs.ThreadMove as moves
@@ -110,7 +108,7 @@ restands c marked is f h k =
 
 -- a field is as the world that the thread sees has it
 pub kind_map : (Old : ℕ → Type 0) (w : World) (next : ℕ) → ((v : ℕ) → IsFinished w next v → Old v) → (kind : Kind) (v : ℕ) → KindKeeps w next kind v → KindOld Old kind v
-kind_map Old w next f (kinds.Ref class) v k = f v k
+kind_map Old w next f (Ref class) v k = f v k
 kind_map Old w next f kind v k = tt
 
 module _ (moving : Moving) (objects : List Object) (s : Core) (facts : HeapFacts moving.c objects s) (next_is : slice_index s.words NEXT_FREE_WORD ≡ moving.next) (places : PlacesKeep moving.c moving.owning moving.w moving.next objects s.words) where
@@ -150,7 +148,7 @@ module _ (moving : Moving) (objects : List Object) (s : Core) (facts : HeapFacts
       Reads_it n = ReadsField c marked owning.stores f kf.stands n
 
       place_kind : (kind : Kind) (word v : ℕ) → PlaceStores owning.stores word false kind v → KindOld (IsStoredNowhere owning.stores) kind v
-      place_kind (kinds.Ref class) word v h = h
+      place_kind (Ref class) word v h = h
       place_kind kind word v h = tt
 
       module _ (v : Variable) (same : effect_at c.program at ≡ Reads v) (field : FieldInfo) (named : IsNamedField c.program (HasClass objects) kf.stands.target v field) where
@@ -162,7 +160,7 @@ module _ (moving : Moving) (objects : List Object) (s : Core) (facts : HeapFacts
             (places.arrays holder.object named.number field holder.known named.there static holder.of_class)
 
         -- the reference is the one on the stack
-        on_stack : (op : Op) (stack : List ℕ) (n : ℕ) (i : ℕ) → op ≡ ops.Getfield i → kf.stands.insn.op ≡ op → f.stack ≡ stack → is_static field.flags ≡ false → slice_index f.stack 0 ≡ named.reference
+        on_stack : (op : Op) (stack : List ℕ) (n : ℕ) (i : ℕ) → op ≡ Getfield i → kf.stands.insn.op ≡ op → f.stack ≡ stack → is_static field.flags ≡ false → slice_index f.stack 0 ≡ named.reference
         on_stack op stack n i is here_op there_stack static = by_stack stack there_stack (sym moved ∙ same)
           where
             moved : effect_at c.program at ≡ gets (Some field) stack
@@ -183,7 +181,7 @@ module _ (moving : Moving) (objects : List Object) (s : Core) (facts : HeapFacts
         reads_own_array n reads word is = by_op kf.stands.insn.op refl kf.stands.target refl reads.1
           where
             by_op : (op : Op) → kf.stands.insn.op ≡ op → (target : Target) → kf.stands.target ≡ target → is_read_of n op target ≡ true → IsStoredAt owning.stores word (slice_index s.words (variable_word v))
-            by_op (ops.Getfield i) e (targets.Field other) g h =
+            by_op (Getfield i) e (targets.Field other) g h =
                 let both : targets.Field named.number ≡ targets.Field other = sym named.named ∙ g in
                 let one_number : named.number ≡ other = cc in
                 let same_number : named.number ≡ n = one_number ∙ eqb-true other n h in
@@ -191,9 +189,9 @@ module _ (moving : Moving) (objects : List Object) (s : Core) (facts : HeapFacts
                 let one : field ≡ reads.0.field = same_some (sym named.there ∙ (ap (slice_get c.program.fields) same_number ∙ reads.0.is)) in
                 let two : field ≡ is.field = same_some (sym named.there ∙ (ap (slice_get c.program.fields) same_number ∙ is.is)) in
                 let static : is_static field.flags ≡ false = ap (λ (x : FieldInfo). is_static x.flags) one ∙ reads.0.instance in
-                let gets_this : GetsOnThis n (ops.Getfield i) (targets.Field other) kf.stands.tags = subst (λ (t : Target). GetsOnThis n (ops.Getfield i) t kf.stands.tags) g (subst (λ (o : Op). GetsOnThis n o kf.stands.target kf.stands.tags) e (reads.0.read f.method kf.stands.number kf.stands.method kf.stands.insn kf.stands.target kf.stands.tags kf.stands.at)) in
+                let gets_this : GetsOnThis n (Getfield i) (targets.Field other) kf.stands.tags = subst (λ (t : Target). GetsOnThis n (Getfield i) t kf.stands.tags) g (subst (λ (o : Op). GetsOnThis n o kf.stands.target kf.stands.tags) e (reads.0.read f.method kf.stands.number kf.stands.method kf.stands.insn kf.stands.target kf.stands.tags kf.stands.at)) in
                 let this : slice_index f.stack 0 ≡ f.receiver = on_this 0 (gets_this (eqb-true other n h)) in
-                let reference : named.reference ≡ f.receiver = sym (on_stack (ops.Getfield i) f.stack n i refl e refl static) ∙ this in
+                let reference : named.reference ≡ f.receiver = sym (on_stack (Getfield i) f.stack n i refl e refl static) ∙ this in
                 let place : value_word named.reference field.index ≡ word = (λ j. value_word (reference j) ((two j).index)) ∙ sym is.place in
                 subst (λ (x : ℕ). IsStoredAt owning.stores word (slice_index s.words x)) (sym (instance_word c objects kf.stands.target v field named static))
                 (subst (λ (x : ℕ). IsStoredAt owning.stores x (slice_index s.words (value_word named.reference field.index))) place
@@ -212,9 +210,9 @@ module _ (moving : Moving) (objects : List Object) (s : Core) (facts : HeapFacts
               where
                 -- an instance field is read by a `getfield`
                 is_get : (op : Op) → HasRow c.program (site_in kf.stands.method) kf.stands.insn.pc (targets.Field named.number) op (row_at c f kf.stands) → is_putfield op ≡ false → is_read_of named.number op (targets.Field named.number) ≡ true
-                is_get (ops.Getfield i) h p = eq-eqb named.number named.number refl
-                is_get (ops.Getstatic i) h p = absurd (let same : h.field ≡ field = same_some (sym h.there ∙ named.there) in let bad : true ≡ false = sym h.sort ∙ (ap (λ (x : FieldInfo). is_static x.flags) same ∙ e) in cc)
-                is_get (ops.Putstatic i) h p = absurd (let same : h.field ≡ field = same_some (sym h.there ∙ named.there) in let bad : true ≡ false = sym h.sort ∙ (ap (λ (x : FieldInfo). is_static x.flags) same ∙ e) in cc)
+                is_get (Getfield i) h p = eq-eqb named.number named.number refl
+                is_get (Getstatic i) h p = absurd (let same : h.field ≡ field = same_some (sym h.there ∙ named.there) in let bad : true ≡ false = sym h.sort ∙ (ap (λ (x : FieldInfo). is_static x.flags) same ∙ e) in cc)
+                is_get (Putstatic i) h p = absurd (let same : h.field ≡ field = same_some (sym h.there ∙ named.there) in let bad : true ≡ false = sym h.sort ∙ (ap (λ (x : FieldInfo). is_static x.flags) same ∙ e) in cc)
                 is_get op h p = absurd (first_of (assumption, cc))
 
                 reads : is_read_of named.number kf.stands.insn.op kf.stands.target ≡ true

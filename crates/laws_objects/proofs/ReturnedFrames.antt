@@ -1,12 +1,11 @@
 -- A return: the caller goes on behind its call. Where an `<init>` of a frozen class returns, its object is finished.
-use Rattle.std.proofs.Common.{◌≡◌, ◌≢◌, ℕ, zero, suc, ◌+◌, inl, inr, Bool, true, false, not, ◌&&◌, List, [], ◌∷◌, ◌++◌, length, map, drop, Option, Some, None, refl, sym, ap, ◌∙◌, subst, arith, ◌==◌, slice_get, slice_index_or}
+use Rattle.std.proofs.Common.{◌≡◌, ℕ, zero, suc, ◌+◌, inl, inr, Bool, true, false, not, ◌&&◌, List, [], ◌∷◌, ◌++◌, length, map, drop, Option, Some, None, refl, sym, ap, ◌∙◌, subst, arith, ◌==◌, slice_get, slice_index_or}
 use Rattle.std.{specs.{List.AllByRecursion, Option.{option_map, option_to_list}}, proofs.lemmas.Bool.{cases_Bool, or_parts, eq-eqb, eqb-true, ne_eqb}}
 use Rattle.lists.proofs.{ListLaws.same_some, TestLaws.is_true}
 use Rattle.jvm_types.specs.{CodeTable.{type_of, arguments, is_init, result_of, value_of, stack_after, locals_after, row}, Numbers.has_number, Types.{TypeFrame, is_below}}
-use Rattle.jvm_types.specs.{Verifying.{suits, some_taken, new_class, started, initialised, after_start, frame_after, edges, is_return}, declared.{code.Op.Op, op_row.Given.Given}}
-use Rattle.jvm_types.specs.declared.{op_row.{Given.TheVariants.Fresh as Anew, OpRow.OpRow, Want.{Want, TheVariants.{AnInt, AnObject, ToStart}}}, program.Kind.Kind}
-use Rattle.jvm_types.specs.declared.{code.Insn.Insn, program.{MethodInfo.MethodInfo, Target.Target}, typing.VType.VType}
-use Rattle.jvm_types.proofs.EachAfter.{all_append}
+use Rattle.jvm_types.specs.{Verifying.{suits, some_taken, new_class, started, initialised, after_start, frame_after, edges, is_return}, declared.{code.{Insn.Insn, Op.Op}, op_row.Given.Given}}
+use Rattle.jvm_types.specs.declared.{op_row.{Given.TheVariants.Fresh as Anew, OpRow.OpRow, Want.{Want, TheVariants.{AnInt, AnObject, ToStart}}}, program.Kind.{Kind, TheVariants.Ref}}
+use Rattle.jvm_types.{specs.declared.{program.{MethodInfo.MethodInfo, Target.Target}, typing.VType.VType}, proofs.EachAfter.all_append}
 use Rattle.laws_programs.{specs.RuleLaws.{ReturnsWell, ReturnsTop}, proofs.RuleUses.returns_suit_all}
 use Rattle.checked_program.specs.{CheckedLaws.receiver_want, LockTags.TagShape, TaggedCode.IsAt, Tagging.moved_tags, declared.tag.Tag.{Tag, TheVariants.Untagged}}
 use Rattle.machine_types.specs.Construction.{puts_owned, builds, makes_frozen, if_so, SlotsAre, Runs, WaitsFor, FreshAtCall, IsFresh, ReceiverIs, SlotOf, IsNoStored, IsArraySlot, SlotsFrom}
@@ -20,7 +19,6 @@ use Rattle.laws_objects.proofs.Moves.{Steps, stays, drops, StartsOld, StartsYoun
 use Rattle.laws_objects.proofs.{Operands.{TakenOld, takes_any, no_read, no_getfield, takes_old}, PutPlaces.edge_plain, Slots.{slots_map, slots_long, slot_later, made_slot}}
 use Rattle.laws_objects.proofs.WorldChanges.{without, without_gone, without_keeps, finished_without}
 use Rattle.jvm_types.specs.declared.code.Op.TheVariants as ops
-use Rattle.jvm_types.specs.declared.program.Kind.TheVariants as kinds
 use Rattle.jvm_types.specs.declared.typing.VType.TheVariants as types
 
 -- ---- results
@@ -34,9 +32,8 @@ ResultOld Old result vs = ⊥
 top_result : (m : MethodInfo) (Old : ℕ → Type 0) (R : VType → Tag → ℕ → Type 0) (us : List VType) (gs : List Tag) (s : List ℕ) → ReturnsTop m us → SlotsAre R us gs s → ((kind : Kind) (a : ℕ) (rest : List ℕ) → m.result ≡ Some kind → s ≡ a ∷ rest → KindOld Old kind a)
     → (a : ℕ) × (rest : List ℕ) × (s ≡ a ∷ rest) × ResultOld Old m.result (a ∷ [])
 top_result m Old R [] gs s w slots k = absurd (let e = w.top in cc)
-top_result m Old R (u ∷ us) [] [] w slots k = absurd slots
-top_result m Old R (u ∷ us) (g ∷ gs) [] w slots k = absurd slots
-top_result m Old R (u ∷ us) gs (a ∷ s) w slots k = (a, s, refl, subst (λ (o : Option Kind). ResultOld Old o (a ∷ [])) (sym w.described) (k w.kind a s w.described refl))
+top_result m Old R (u ∷ us) (g ∷ gs) (a ∷ s) w slots k = (a, s, refl, subst (λ (o : Option Kind). ResultOld Old o (a ∷ [])) (sym w.described) (k w.kind a s w.described refl))
+top_result m Old R us gs s w slots k = absurd slots
 
 module _ (building : Building) (h : ℕ) (null : IsFinished building.w building.next 0) (f : Frame) (k : FrameIn building h Runs f) where
   open building use {c, marked, frozen, owning, w, next, t}
@@ -58,7 +55,7 @@ module _ (building : Building) (h : ℕ) (null : IsFinished building.w building.
       subst (λ (s : List ℕ). ResultOld Old m.result (given_back ops.Ireturn s)) (sym top.2) top.3
     where
       an_int : (kind : Kind) (a : ℕ) → m.result ≡ Some kind → KindOld Old kind a
-      an_int (kinds.Ref class) a e = absurd (no_reference k.stands.types.stack well suit)
+      an_int (Ref class) a e = absurd (no_reference k.stands.types.stack well suit)
         where
           below_both : (u : VType) → is_below u types.Int ≡ true → is_below u (types.Ref class) ≡ true → ⊥
           below_both types.Int i b = cc
@@ -68,7 +65,7 @@ module _ (building : Building) (h : ℕ) (null : IsFinished building.w building.
           no_reference [] w s = (let e = w.top in cc)
           no_reference (u ∷ us) w s =
               let same : u ≡ w.type = same_some w.top in
-              let kind : w.kind ≡ kinds.Ref class = same_some (sym w.described ∙ e) in
+              let kind : w.kind ≡ Ref class = same_some (sym w.described ∙ e) in
               let int : is_below u types.Int ≡ true = is_true (is_below u types.Int) (or_parts (not (is_below u types.Int)) (some_taken (λ want t. not (suits m want t)) [] us) s).0 in
               below_both u int (subst (λ (x : VType). is_below x (types.Ref class) ≡ true) (sym same) (subst (λ (x : Kind). is_below w.type (type_of x) ≡ true) kind w.fits))
       an_int kind a e = tt
@@ -77,7 +74,7 @@ module _ (building : Building) (h : ℕ) (null : IsFinished building.w building.
       subst (λ (s : List ℕ). ResultOld Old m.result (given_back ops.Areturn s)) (sym top.2) top.3
     where
       an_object : (kind : Kind) (a : ℕ) (rest : List ℕ) → f.stack ≡ a ∷ rest → TakenOld Old (Rattle.jvm_types.specs.CodeTable.returned_want (Some kind) ∷ []) f.stack → KindOld Old kind a
-      an_object (kinds.Ref class) a rest e h = (subst (TakenOld Old (AnObject class ∷ [])) e h).0
+      an_object (Ref class) a rest e h = (subst (TakenOld Old (AnObject class ∷ [])) e h).0
       an_object kind a rest e h = tt
   result_of_op Old op r well plain old suit = absurd (let bad : false ≡ true = r in cc)
 
@@ -148,9 +145,6 @@ module _ (lawful : LawfulBuilding) (resuming : Resuming lawful) where
   abbrev r : OpRow
   r = row_at c g wait.keeps.stands
 
-  abbrev h : ℕ
-  h = length gs
-
   abbrev resumed : Frame
   resumed = record g { pc = wait.keeps.stands.insn.next; stack = result ++ g.stack }
 
@@ -168,7 +162,7 @@ module _ (lawful : LawfulBuilding) (resuming : Resuming lawful) where
   IsWaiting = SlotOf frozen w next t (length gs) (WaitsFor receiver wait.begun) wait.keeps.stands.method g.receiver
 
   kind_slot : (kind : Kind) (v : ℕ) → KindOld (IsFinished w next) kind v → IsWaiting (type_of kind) Untagged v
-  kind_slot (kinds.Ref class) v o = made_slot (IsFinished w next) (null lawful) (IsFresh w t (length gs) (WaitsFor receiver wait.begun)) (builds frozen k.method) (makes_frozen frozen k.method) g.receiver (builds frozen k.method) (types.Ref class) v (λ e. cc) o
+  kind_slot (Ref class) v o = made_slot (IsFinished w next) (null lawful) (IsFresh w t (length gs) (WaitsFor receiver wait.begun)) (builds frozen k.method) (makes_frozen frozen k.method) g.receiver (builds frozen k.method) (types.Ref class) v (λ e. cc) o
   kind_slot kind v o = made_slot (IsFinished w next) (null lawful) (IsFresh w t (length gs) (WaitsFor receiver wait.begun)) (builds frozen k.method) (makes_frozen frozen k.method) g.receiver (builds frozen k.method) types.Int v (λ e. cc) tt
 
   pushed : (o : Option Kind) (vs : List ℕ) → ResultOld (IsFinished w next) o vs → (st lt : List VType) (sg lg : List Tag) (us : List VType) (hs : List Tag) (ns : List ℕ) → SlotsAre IsWaiting us hs ns
@@ -195,7 +189,7 @@ module _ (lawful : LawfulBuilding) (resuming : Resuming lawful) where
   is_begun_type = is_start k.method (makes_frozen frozen k.method) (started k.method.class r.takes k.types.stack) (starts k.method (makes_frozen frozen k.method) r.takes k.types.stack (suit_at c marked g k))
 
   kind_type : (kind : Kind) (v : ℕ) → KindOld (IsStoredNowhere owning.stores) kind v → IsNoStored owning.stores (type_of kind) v
-  kind_type (kinds.Ref class) v h = h
+  kind_type (Ref class) v h = h
   kind_type kind v h = tt
 
   made_by : (o : Option Kind) (vs : List ℕ) → ResultOld (IsStoredNowhere owning.stores) o vs
@@ -309,18 +303,11 @@ module _ (lawful : LawfulBuilding) (resuming : Resuming lawful) where
     finish : (us : List VType) (hs : List Tag) (ns : List ℕ) → SlotsAre IsWaiting us hs ns → SlotsAre (SlotOf frozen z next t (length gs) Runs k.method g.receiver) (initialised (types.New y.pc) y.class us) hs ns
     finish us hs ns s =
         slots_finished (IsFinished w next) (IsFinished z next) (IsFresh w t (length gs) (WaitsFor receiver (Some (types.New y.pc, y.class)))) (IsFresh z t (length gs) Runs) (makes_frozen frozen k.method) y.pc (finished_without w next gone)
-        (λ v young e. here v e) (λ x v n young e. others x v n e) y.class g.receiver (builds frozen k.method) us hs ns
+        (λ v young e. let same : v ≡ receiver = subst (λ (b : Bool). if_so b (v ≡ receiver) (w v ≡ Some (builder t (length gs) (Made y.pc)))) (eq-eqb y.pc y.pc refl) e in
+        subst (IsFinished z next) (sym same) (inside lawful receiver gone is_begun, without_gone w gone receiver is_begun))
+        (λ x v n young e. without_keeps w gone v (builder t (length gs) (Made x)) (subst (λ (b : Bool). if_so b (v ≡ receiver) (w v ≡ Some (builder t (length gs) (Made x)))) (ne_eqb x y.pc n) e)
+        (λ s. (let i : length gs ≡ suc (length gs) = ap (λ (b : Builder). b.height) s in omega (arith, i)))) y.class g.receiver (builds frozen k.method) us hs ns
         (subst (λ (o : Option (VType × ℕ)). SlotsAre (SlotOf frozen w next t (length gs) (WaitsFor receiver o) k.method g.receiver) us hs ns) (wait.begun_is ∙ y.is) s)
-      where
-        here : (v : ℕ) → if_so (y.pc == y.pc) (v ≡ receiver) (w v ≡ Some (builder t (length gs) (Made y.pc))) → IsFinished z next v
-        here v e =
-            let same : v ≡ receiver = subst (λ (b : Bool). if_so b (v ≡ receiver) (w v ≡ Some (builder t (length gs) (Made y.pc)))) (eq-eqb y.pc y.pc refl) e in
-            subst (IsFinished z next) (sym same) (inside lawful receiver gone is_begun, without_gone w gone receiver is_begun)
-
-        others : (x v : ℕ) → x ≢ y.pc → if_so (x == y.pc) (v ≡ receiver) (w v ≡ Some (builder t (length gs) (Made x))) → z v ≡ Some (builder t (length gs) (Made x))
-        others x v n e =
-            let built = subst (λ (b : Bool). if_so b (v ≡ receiver) (w v ≡ Some (builder t (length gs) (Made x)))) (ne_eqb x y.pc n) e in
-            without_keeps w gone v (builder t (length gs) (Made x)) built (λ s. (let i : length gs ≡ suc (length gs) = ap (λ (b : Builder). b.height) s in omega (arith, i)))
 
     resumes_young : FrameIn (in_world building z) (length gs) Runs resumed
     resumes_young =

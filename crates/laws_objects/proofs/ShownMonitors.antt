@@ -6,10 +6,9 @@ use Rattle.lists.proofs.TestLaws.{both_are_true}
 use Rattle.jvm_types.specs.{ClassNames.file_of_class, Members.{is_static, is_synchronized}, declared.program.{MethodInfo.MethodInfo, Program.Program}}
 use Rattle.checked_program.specs.{FrozenPlaces.{locks_this, locks_class}, LockTags.{TagShape, is_this}, MarkedProgram.{MarkedProgram, IsMarked}, declared.tag.Tag.Tag}
 use Rattle.checked_program.specs.declared.tag.Tag.TheVariants.{Untagged, This, At}
-use Rattle.machine_types.specs.{HeldMonitors.held_at, Shown.{tag_value, own_entry, shown_entries, Shows}, Standing.{Standing, Whole}, Structure.{Stands, count_in, held_depth}, Threads.Frame}
-use Rattle.machine_types.specs.{Words.class_object, declared.lock.Held.Held}
+use Rattle.machine_types.specs.{HeldMonitors.held_at, Shown.{tag_value, own_entry, shown_entries, Shows}, Standing.{Standing, Whole}, Structure.{Stands, count_in}, Threads.Frame, Words.class_object}
+use Rattle.machine_types.specs.declared.{lock.Held.Held, phase.Phase.TheVariants.Run}
 use Rattle.laws_threads.proofs.{Counts.once_in, FramePlaces.one_standing, HeldLists.depth_none, Tests.either_way}
-use Rattle.machine_types.specs.declared.phase.Phase.TheVariants as phases
 
 -- ---- counts
 
@@ -38,26 +37,20 @@ method_counted p m f e =
     let parts = both_are_true (is_synchronized m.flags) (not (is_static m.flags)) e in
     elim (cases_Bool (is_static m.flags)) [ inl s ↦ absurd (let bad : false ≡ true = rw s at parts.1 in cc) | inr s ↦ rw (parts.0, s) (once_in f.receiver []) ]
 
--- ---- what it shows of its class
-
-class_counted : (p : Program) (m : MethodInfo) (f : Frame) → locks_class m ≡ true → 0 < count_in (class_object p (file_of_class m.class)) (own_entry p m f)
-class_counted p m f e = let parts = both_are_true (is_synchronized m.flags) (is_static m.flags) e in rw (parts.0, parts.1) (once_in (class_object p (file_of_class m.class)) [])
-
 pub entries_counted : (p : Program) (choice : ℕ → ℕ) (m : MethodInfo) (tags : TagShape) (f : Frame) → (list_any is_this tags.held ≡ true) ⊎ (locks_this m ≡ true) → 0 < count_in f.receiver (shown_entries p choice m tags f)
 entries_counted p choice m tags f (inl e) = front_counted f.receiver (map (tag_value choice f.receiver) tags.held) (own_entry p m f) (tag_counted choice f.receiver tags.held e)
 entries_counted p choice m tags f (inr e) = back_counted f.receiver (map (tag_value choice f.receiver) tags.held) (own_entry p m f) (method_counted p m f e)
 
 -- ---- what is shown is held
 
-held_of : (m : ℕ) (held : List Held) → 0 < held_depth m held → (h : Held) × (held_at held m ≡ Some h)
-held_of m held l = (elim (held_at held m) as (λ (o : Option Held). held_at held m ≡ o → (h : Held) × (held_at held m ≡ Some h))
-    [ None ↦ λ e. absurd (omega (arith, l, depth_none m held e)) | Some h ↦ λ e. (h, e) ]) refl
-
 module _ (c : MarkedProgram) (marked : IsMarked c) where
-  shown_held : (m : ℕ) (f : Frame) (fs : List Frame) (held : List Held) (stands : Stands c phases.Run (f ∷ fs) held None) → 0 < count_in m stands.show.0 → (h : Held) × (held_at held m ≡ Some h)
-  shown_held m f fs held stands own = held_of m held (omega (arith, stands.depths m, (subst (λ (ns : List ℕ). 0 < count_in m ns) (sym stands.show.2) (front_counted m stands.show.0 stands.show.1 own))))
+  shown_held : (m : ℕ) (f : Frame) (fs : List Frame) (held : List Held) (stands : Stands c Run (f ∷ fs) held None) → 0 < count_in m stands.show.0 → (h : Held) × (held_at held m ≡ Some h)
+  shown_held m f fs held stands own = (elim (held_at held m) as (λ (o : Option Held). held_at held m ≡ o → (h : Held) × (held_at held m ≡ Some h)) [
+    | None ↦ λ e. absurd (omega (arith, stands.depths m, (subst (λ (ns : List ℕ). 0 < count_in m ns) (sym stands.show.2) (front_counted m stands.show.0 stands.show.1 own)), depth_none m held e))
+    | Some h ↦ λ e. (h, e)
+  ]) refl
 
-  pub holds_receiver : (f : Frame) (fs : List Frame) (held : List Held) (k : Standing c f) → Stands c phases.Run (f ∷ fs) held None → (list_any is_this k.tags.held ≡ true) ⊎ (locks_this k.method ≡ true)
+  pub holds_receiver : (f : Frame) (fs : List Frame) (held : List Held) (k : Standing c f) → Stands c Run (f ∷ fs) held None → (list_any is_this k.tags.held ≡ true) ⊎ (locks_this k.method ≡ true)
       → (h : Held) × (held_at held f.receiver ≡ Some h)
   holds_receiver f fs held k stands shows = shown_held f.receiver f fs held stands (subst (λ (ns : List ℕ). 0 < count_in f.receiver ns) (sym top.shown_are) (entries_counted c.program top.choice top.stands.method top.stands.tags f shows_there))
     where
@@ -73,7 +66,7 @@ module _ (c : MarkedProgram) (marked : IsMarked c) where
   abbrev class_monitor : MethodInfo → ℕ
   class_monitor m = class_object c.program (file_of_class m.class)
 
-  pub holds_class : (f : Frame) (fs : List Frame) (held : List Held) (k : Standing c f) → Stands c phases.Run (f ∷ fs) held None → locks_class k.method ≡ true → (h : Held) × (held_at held (class_monitor k.method) ≡ Some h)
+  pub holds_class : (f : Frame) (fs : List Frame) (held : List Held) (k : Standing c f) → Stands c Run (f ∷ fs) held None → locks_class k.method ≡ true → (h : Held) × (held_at held (class_monitor k.method) ≡ Some h)
   holds_class f fs held k stands locks = shown_held (class_monitor k.method) f fs held stands
       (subst (λ (ns : List ℕ). 0 < count_in (class_monitor k.method) ns) (sym top.shown_are) (back_counted (class_monitor k.method) (map (tag_value top.choice f.receiver) top.stands.tags.held) (own_entry c.program top.stands.method f) own))
     where
@@ -81,4 +74,5 @@ module _ (c : MarkedProgram) (marked : IsMarked c) where
       top = stands.show.3
 
       own : 0 < count_in (class_monitor k.method) (own_entry c.program top.stands.method f)
-      own = subst (λ (m : MethodInfo). 0 < count_in (class_monitor k.method) (own_entry c.program m f)) (one_standing c marked f k top.stands).method (class_counted c.program k.method f locks)
+      own = subst (λ (m : MethodInfo). 0 < count_in (class_monitor k.method) (own_entry c.program m f)) (one_standing c marked f k top.stands).method
+          (let parts = both_are_true (is_synchronized k.method.flags) (is_static k.method.flags) locks in rw (parts.0, parts.1) (once_in (class_monitor k.method) []))

@@ -1,21 +1,18 @@
 -- A new array is stored in an owned field of its object: it is finished then, and no frame has it any more.
 use Rattle.std.proofs.Common.{◌≡◌, ◌≢◌, ℕ, ◌+◌, inl, Bool, true, false, List, [], ◌∷◌, length, drop, Option, Some, None, refl, sym, ap, ◌∙◌, subst, arith, slice_index_or}
 use Rattle.std.specs.List.{AllByRecursion}
-use Rattle.jvm_types.specs.{CodeTable.{row, want_of, put_row, stack_after, locals_after}, Numbers.has_number, Types.TypeFrame, Verifying.{started, frame_after, edges}, declared.{class_numbers.TheConstants.INT_ARRAY_CLASS, code.Op.Op}}
-use Rattle.jvm_types.specs.declared.{op_row.{Given.Given, OpRow.OpRow}, program.{Kind.Kind}, typing.VType.VType}
+use Rattle.jvm_types.specs.{CodeTable.{row, want_of, put_row, stack_after, locals_after}, Numbers.has_number, Types.TypeFrame, Verifying.{started, frame_after, edges}}
+use Rattle.jvm_types.specs.declared.{class_numbers.TheConstants.INT_ARRAY_CLASS, code.Op.{Op, TheVariants.Putfield}, op_row.{Given.Given, OpRow.OpRow}, program.Kind.Kind, typing.VType.VType}
 use Rattle.checked_program.specs.{Colours.is_read_of, OwnedArrays.IsOwnedArrayField, Tagging.{moved_tags, tags_by_op}, declared.tag.Tag.{Tag}}
-use Rattle.machine_types.specs.Construction.{puts_owned, builds, makes_frozen, SlotsAre, StackWith, Runs, IsFresh, SlotOf, IsNoStored, IsArraySlot, SlotsFrom}
-use Rattle.machine_types.specs.{Frames.{frame_on, went_on}, OwnedPlaces.{with_stored, IsStoredNowhere}, Standing.{Standing, row_at, tags_of}, Threads.Frame}
-use Rattle.machine_types.specs.Worlds.{Made, Begun, Unstored, Builder, builder, World, IsFinished}
+use Rattle.machine_types.specs.{Construction.{puts_owned, builds, makes_frozen, SlotsAre, StackWith, Runs, IsFresh, SlotOf, IsNoStored, IsArraySlot, SlotsFrom}, Frames.{frame_on, went_on}}
+use Rattle.machine_types.specs.{OwnedPlaces.{with_stored, IsStoredNowhere}, Standing.{Standing, row_at, tags_of}, Threads.Frame, Worlds.{Made, Begun, Unstored, Builder, builder, World, IsFinished}}
 use Rattle.laws_threads.{specs.Allowed.OneOf, proofs.{Standings.top_here, TopEffects.number_in}}
 use Rattle.laws_objects.proofs.{ArrayFrames.takes_clean, ArrayMoves.{GivenClean, WriteClean, SourceFine, stack_clean, each_source, dropped_at}}
 use Rattle.laws_objects.proofs.ArraySlots.{from_drop, each_from, no_stored_along, array_along, stack_begun, locals_begun, IsStart}
 use Rattle.laws_objects.proofs.{Buildings.{Building, FramesIn, Design, LawfulBuilding, in_world, with_stores, FrameIn, BelowIn, null}, BuiltEffects.StartsNone}
-use Rattle.laws_objects.proofs.{CalledFrames.{below_moved, none_started}, KeptFrames.below_kept, Landing.LandsWell, Moves.{Steps, drops, given_stack, given_locals, lands_behind, receiver_without}, Operands.{WantOld, TakenOld, takes_any}}
-use Rattle.laws_objects.proofs.{PutPlaces.{is_newarray, edge_plain}, RestoredFrames.{NewArray, receiver_apart, arrays_from, locals_from, below_on}}
-use Rattle.laws_objects.proofs.Slots.{slots_map, slots_drop, slots_long, slot_later}
-use Rattle.laws_objects.proofs.WorldChanges.{none_some, without, without_gone, without_keeps, finished_without}
-use Rattle.jvm_types.specs.declared.code.Op.TheVariants as ops
+use Rattle.laws_objects.proofs.{CalledFrames.{below_moved, none_started}, KeptFrames.below_kept, Landing.LandsWell, Moves.{Steps, drops, given_stack, given_locals, lands_behind, receiver_without}}
+use Rattle.laws_objects.proofs.{Operands.{WantOld, TakenOld, takes_any}, PutPlaces.{is_newarray, edge_plain}, RestoredFrames.{NewArray, receiver_apart, arrays_from, locals_from, below_on}}
+use Rattle.laws_objects.proofs.{Slots.{slots_map, slots_drop, slots_long, slot_later}, WorldChanges.{none_some, without, without_gone, without_keeps, finished_without}}
 use Rattle.jvm_types.specs.declared.program.Kind.TheVariants as kinds
 use Rattle.jvm_types.specs.declared.program.Target.TheVariants as targets
 use Rattle.jvm_types.specs.declared.typing.VType.TheVariants as types
@@ -35,7 +32,7 @@ want_starts kind = tt
 pub record PutsOwned (design : Design) (f : Frame) (stands : Standing design.c f) : Type 0 where
   pub fi : ℕ
   pub index : ℕ
-  pub op_is : stands.insn.op ≡ ops.Putfield index
+  pub op_is : stands.insn.op ≡ Putfield index
   pub target_is : stands.target ≡ targets.Field fi
   pub owned : design.owning.owned fi ≡ true
   pub array : ℕ
@@ -112,9 +109,6 @@ module _ (lawful : LawfulBuilding) (f : Frame) (fs : List Frame) (k : FrameIn la
   abbrev before : TypeFrame
   before = record { stack = stack_after types.Top (λ t. t) (row_at c f k.stands) k.stands.types.stack k.stands.types.locals; locals = locals_after types.Top (λ t. t) (row_at c f k.stands).writes k.stands.types.stack k.stands.types.locals; ready = k.stands.types.ready }
 
-  abbrev n : ℕ
-  n = length (row_at c f k.stands).takes
-
   by_row : tags_by_op k.stands.insn.pc (row_at c f k.stands) k.stands.insn.op k.stands.tags.stack k.stands.tags ≡ moved_tags (row_at c f k.stands) k.stands.tags
   by_row = ap (λ (op : Op). tags_by_op k.stands.insn.pc (row_at c f k.stands) op k.stands.tags.stack k.stands.tags) op_is
 
@@ -174,14 +168,13 @@ module _ (lawful : LawfulBuilding) (f : Frame) (fs : List Frame) (k : FrameIn la
 
   -- ---- all frames
 
-  below_stored : BelowIn (in_world behind z) f fs
-  below_stored =
-      below_kept behind z next (finished_without w next new) f fs (λ i less v x e. without_keeps w new v (builder t i x) e (λ s. (let same : i ≡ length fs = ap (λ (x : Builder). x.height) s in omega (arith, same, less))))
-      (below_on building it is_new f fs (λ i less s. (let same : i ≡ length fs = ap (λ (x : Builder). x.height) s in omega (arith, same, less))) apart b)
-
   pub stores_it : Steps w next t (λ z. FramesIn (in_world behind z) Runs (went_on c.program (top_here c f fs k.stands) 0))
-  stores_it = drops w next t (builder t (length fs) Unstored) (λ z. FramesIn (in_world behind z) Runs (went_on c.program (top_here c f fs k.stands) 0)) refl (λ e. cc)
-      (frame_stored, below_moved (in_world behind z) f k.stands.insn.next (frame_on (row_at c f k.stands) k.stands.insn.next 0 f).stack (frame_on (row_at c f k.stands) k.stands.insn.next 0 f).locals fs below_stored)
+  stores_it = drops w next t (builder t (length fs) Unstored) (λ z. FramesIn (in_world behind z) Runs (went_on c.program (top_here c f fs k.stands) 0)) refl (λ e. cc) (
+    frame_stored,
+    below_moved (in_world behind z) f k.stands.insn.next (frame_on (row_at c f k.stands) k.stands.insn.next 0 f).stack (frame_on (row_at c f k.stands) k.stands.insn.next 0 f).locals fs
+        (below_kept behind z next (finished_without w next new) f fs (λ i less v x e. without_keeps w new v (builder t i x) e (λ s. (let same : i ≡ length fs = ap (λ (x : Builder). x.height) s in omega (arith, same, less))))
+        (below_on building it is_new f fs (λ i less s. (let same : i ≡ length fs = ap (λ (x : Builder). x.height) s in omega (arith, same, less))) apart b)),
+  )
 
   -- it is finished behind it
   pub later_finished : stores_it.later array ≡ None

@@ -4,10 +4,9 @@ use Rattle.std.{specs.List.AllByRecursion, proofs.lemmas.Bool.{cases_Bool, eqb-t
 use Rattle.jvm_types.specs.ProgramInvariant.{words_of}
 use Rattle.laws_programs.proofs.LocalGoing.{at_index}
 use Rattle.checked_program.specs.MarkedProgram.{MarkedProgram}
-use Rattle.machine_types.specs.{Construction.{Runs, PhaseKeeps}, Elision.put_back, OwnedPlaces.Stores, Going.{root_over, runs, goes_on}}
-use Rattle.machine_types.specs.{HeldMonitors.{held_at, with_held, without_held}, Onward.{Onward, Running, Throwing, Entering, Leaving, RootReturned, Uncaught}}
-use Rattle.machine_types.specs.{Structure.{IsStructured, AttemptStandsIn}, Threads.{Frame, Attempt, Thread}, Worlds.{Lost, Builder, World, IsFinished, IsOwnOrFinished, IsWorld, IsViewOf, GoesOn}}
-use Rattle.machine_types.specs.declared.{lock.Held.Held, phase.Phase.Phase}
+use Rattle.machine_types.specs.{Construction.{Runs, PhaseKeeps}, Elision.put_back, Going.{root_over, runs, goes_on}, HeldMonitors.{held_at, with_held, without_held}}
+use Rattle.machine_types.specs.{Onward.{Onward, Running, Throwing, Entering, Leaving, RootReturned, Uncaught}, OwnedPlaces.Stores, Structure.{IsStructured, AttemptStandsIn}}
+use Rattle.machine_types.specs.{Threads.{Frame, Attempt, Thread}, Worlds.{Lost, Builder, World, IsFinished, IsOwnOrFinished, IsWorld, IsViewOf, GoesOn}, declared.{lock.Held.Held, phase.Phase.Phase}}
 use Rattle.laws_threads.{specs.{EntryFrames.{frames_in, KeepsEntry}, StructureLaws.counted_by}, proofs.{HeldBounds.{each_put, each_without, found}, Tests.either_way, ThreadMove.{goes_held, goes_attempt}}}
 use Rattle.laws_states.proofs.Lists.{contained_got, contains_first, contains_more}
 use Rattle.laws_objects.proofs.{Buildings.{Building, in_world, in_later, with_stores, FramesIn, PhaseIn, TriesIn, AttemptIn, ThreadIn}, CountedPhases.PhaseFits}
@@ -224,12 +223,6 @@ module _ (building : Building) (was : Phase) (x : Thread) (k : ThreadIn building
 
   -- ---- it goes on
 
-  runs_sees : (s : Thread) (fs : List Frame) → Steps k.now next t (λ z. FramesIn (in_world building z) Runs fs) → Sees (in_world building k.now) next (counted_by was (runs (record s { frames = fs })).phase) (runs (record s { frames = fs }))
-  runs_sees s fs o = either_way (λ (left : Bool). Sees (in_world building k.now) next (counted_by was (cond left phases.Run (phases.Ending ends.Steps))) (record s { frames = fs; phase = cond left phases.Run (phases.Ending ends.Steps) }))
-      (nat_lt s.counts.instructions s.cfg.steps)
-      (record { later = o.later; goes = o.goes; world = o.world (words_of c.program); lost = o.lost; fits = (o.keeps, tt) })
-      (record { later = o.later; goes = o.goes; world = o.world (words_of c.program); lost = o.lost; fits = (o.keeps, tt) })
-
   -- outside an attempt, where other arrays were stored then
   pub runs_to : (after : Stores) (s : Thread) (fs : List Frame) (o : Steps k.now next t (λ z. FramesIn (in_world (with_stores building after) z) Runs fs)) → s.attempt ≡ None → AreKnown w next t s.held
       → MovedTo (with_stores building after) k.now next (counted_by was (runs (record s { frames = fs })).phase) (runs (record s { frames = fs })) o.later
@@ -239,7 +232,10 @@ module _ (building : Building) (was : Phase) (x : Thread) (k : ThreadIn building
       (in_none after next (counted_by was (phases.Ending ends.Steps)) (record s { frames = fs; phase = phases.Ending ends.Steps }) none held (record { later = o.later; goes = o.goes; world = o.world (words_of c.program); lost = o.lost; fits = (o.keeps, tt) }))
 
   pub onward_sees : (s : Thread) (o : Onward) → Steps k.now next t (λ z. OnwardKeeps (in_world building z) o) → Sees (in_world building k.now) next (counted_by was (goes_on s o).phase) (goes_on s o)
-  onward_sees s (Running fs) o = runs_sees s fs o
+  onward_sees s (Running fs) o = either_way (λ (left : Bool). Sees (in_world building k.now) next (counted_by was (cond left phases.Run (phases.Ending ends.Steps))) (record s { frames = fs; phase = cond left phases.Run (phases.Ending ends.Steps) }))
+      (nat_lt s.counts.instructions s.cfg.steps)
+      (record { later = o.later; goes = o.goes; world = o.world (words_of c.program); lost = o.lost; fits = (o.keeps, tt) })
+      (record { later = o.later; goes = o.goes; world = o.world (words_of c.program); lost = o.lost; fits = (o.keeps, tt) })
   onward_sees s (Throwing e class fs) o = record { later = o.later; goes = o.goes; world = o.world (words_of c.program); lost = o.lost; fits = (o.keeps.1, o.keeps.0) }
   onward_sees s (Entering m fs) o = record { later = o.later; goes = o.goes; world = o.world (words_of c.program); lost = o.lost; fits = (o.keeps.1, o.keeps.0) }
   onward_sees s (Leaving m a fs) o = record { later = o.later; goes = o.goes; world = o.world (words_of c.program); lost = o.lost; fits = (o.keeps.2, (o.keeps.0, o.keeps.1)) }

@@ -3,13 +3,11 @@ use Rattle.std.proofs.Common.{◌≡◌, ℕ, suc, ◌-◌, ◌<◌, ◌⊎◌, 
 use Rattle.std.proofs.lemmas.List.{length-drop}
 use Rattle.jvm_types.specs.declared.outcome.Thrown.{Thrown}
 use Rattle.checked_program.specs.MarkedProgram.{MarkedProgram}
-use Rattle.machine_types.specs.Construction.{BuilderTurn, Runs, WaitsFor, made_world, turn_by}
-use Rattle.machine_types.specs.{Elision.put_back, Going.goes_on, Onward.{back, unwound}, Structure.{operands_in, IsStructured}, Threads.{Frame, Attempt, Thread}}
-use Rattle.machine_types.specs.{Worlds.{Item, Begun, Lost, Builder, builder}, declared.phase.Phase.Phase}
+use Rattle.machine_types.specs.{Construction.{BuilderTurn, Runs, WaitsFor, made_world, turn_by}, Elision.put_back, Going.goes_on, Onward.{back, unwound}, Structure.{operands_in, IsStructured}}
+use Rattle.machine_types.specs.{Threads.{Frame, Attempt, Thread}, Worlds.{Item, Begun, Lost, Builder, builder}, declared.phase.Phase.{Phase, TheVariants.Made}}
 use Rattle.laws_objects.{specs.UnfinishedObjects.IsInitOn, proofs.Buildings.{Building, in_world, BelowIn, FramesIn, PhaseIn, AttemptIn, TriesIn, ThreadIn}}
 use Rattle.laws_objects.proofs.{FrameChanges.{frame_at, counted_below, top_or, in_place, Stay, TriesGo}, LosingInits.init_begun, ThreadMoves.{BasedIn, based_in}}
 use Rattle.laws_objects.proofs.WorldChanges.{given_back, finished_back}
-use Rattle.machine_types.specs.declared.phase.Phase.TheVariants as phases
 
 -- ---- some frame at a height is an `<init>` of a class that the test tells, on the object v
 
@@ -36,10 +34,7 @@ init_stays c frozen h v fs gs stay k =
     }
 
 -- at the top, or below it
-abbrev pub Splits : MarkedProgram → (frozen : ℕ → Bool) → (h v : ℕ) → Frame → List Frame → Type 0
-Splits c frozen h v f fs = ((length fs ≡ h) × IsYoung c frozen v f) ⊎ HasInit c frozen h v fs
-
-pub init_splits : (c : MarkedProgram) (frozen : ℕ → Bool) (h v : ℕ) (f : Frame) (fs : List Frame) → HasInit c frozen h v (f ∷ fs) → Splits c frozen h v f fs
+pub init_splits : (c : MarkedProgram) (frozen : ℕ → Bool) (h v : ℕ) (f : Frame) (fs : List Frame) → HasInit c frozen h v (f ∷ fs) → ((length fs ≡ h) × IsYoung c frozen v f) ⊎ HasInit c frozen h v fs
 init_splits c frozen h v f fs k = elim (top_or h f fs k.frame k.there) [ inl p ↦ inl (p.0, subst (IsYoung c frozen v) (sym p.1) k.is) | inr p ↦ inr (record { frame = k.frame; there = p; is = k.is }) ]
 
 -- ---- its object is begun
@@ -71,8 +66,8 @@ module _ (building : Building) (h v : ℕ) where
   open building use {c, frozen, w, t}
 
   phase_begun : (phase : Phase) (fs : List Frame) → PhaseIn building phase fs → HasInit c frozen h v fs → w v ≡ Some (builder t h Begun)
-  phase_begun (phases.Made a word) [] keeps k = absurd (let e = k.there in cc)
-  phase_begun (phases.Made a word) (f ∷ fs) keeps k =
+  phase_begun (Made a word) [] keeps k = absurd (let e = k.there in cc)
+  phase_begun (Made a word) (f ∷ fs) keeps k =
       made_begun building h v a (length (f ∷ fs) - 1) keeps.item keeps.not_begun
       (frames_begun (in_world building (made_world w a t (length (f ∷ fs) - 1) keeps.item)) h v Runs (record f { stack = a ∷ f.stack } ∷ fs) keeps.keep
       (init_stays c frozen h v (f ∷ fs) (record f { stack = a ∷ f.stack } ∷ fs) (in_place f (record f { stack = a ∷ f.stack }) fs (refl, refl)) k))
