@@ -5,17 +5,16 @@ use Rattle.lists.proofs.{ListLaws.same_some, TestLaws.is_true}
 use Rattle.jvm_types.specs.{CodeTable.row, Members.is_static, ProgramInvariant.IsProgram, Types.{TypeFrame, is_below}, Verifying.{suits, some_taken, some_read, mistypes}, declared.{class_numbers.TheConstants.INT_ARRAY_CLASS, code.{Insn.Insn, Op.Op}}}
 use Rattle.jvm_types.specs.declared.{op_row.Want.Want, program.{FieldInfo.FieldInfo, MethodInfo.MethodInfo, Program.Program, Target.Target}, typing.VType.VType}
 use Rattle.checked_program.specs.{MarkedProgram.MarkedProgram, OwnedArrays.{IsOwnedArrayField, IsOwnedAt}, SectionLaws.OwnedIsDecided}
-use Rattle.machine_types.specs.{Accesses.words_after, Construction.{IsArraySlot, IsNoStored, Runs, SlotsFrom}}
-use Rattle.machine_types.specs.{Events.wanted, OwnedPlaces.{Stores, IsElementOf}, PlainMemory.Object, Standing.{Standing, tags_of}}
-use Rattle.machine_types.specs.{Structure.{IsAs, TopIs, is_element_op}, Threads.{Frame, Thread}, Typed.{FramesHold, Holds, HasClass, HasElementIn, HasElementOn, ElementStands, IsElementOn}}
-use Rattle.machine_types.specs.{Words.{value_word, variable_word}, declared.{effect.Variable.{Variable}, phase.Phase.Phase}}
+use Rattle.machine_types.specs.{Accesses.words_after, Construction.{IsArraySlot, IsNoStored, Runs, SlotsFrom}, Events.wanted, OwnedPlaces.{Stores, IsElementOf}, PlainMemory.Object}
+use Rattle.machine_types.specs.{Standing.{Standing, tags_of}, Structure.{IsAs, TopIs, is_element_op}, Threads.{Frame, Thread}}
+use Rattle.machine_types.specs.{Typed.{FramesHold, Holds, HasClass, HasElementIn, HasElementOn, ElementStands, IsElementOn}, Words.{value_word, variable_word}, declared.effect.Variable.Variable}
+use Rattle.machine_types.specs.declared.phase.Phase.{Phase, TheVariants.Element}
 use Rattle.laws_threads.{specs.Allowed.IsNamedField, proofs.{FramePlaces.one_standing, Landing.rules_at, Standings.{are_tagged, one_insn}}}
 use Rattle.laws_states.{specs.Sites.{ValueOf, StaticAt, IsThere}, proofs.{Lists.contained_got, Movers.HeapState, Places.same_object}}
 use Rattle.laws_objects.proofs.{Buildings.{Building, in_world, FrameIn, FramesIn, PhaseIn, ThreadIn, building_in}, ColouredFrames.{coloured_class, coloured_instance}}
 use Rattle.laws_objects.proofs.PlaceWriters.{BuiltEvent, place_event, TopWrites, has_field, holder_of, place_changer, instance_word, static_word}
 use Rattle.jvm_types.specs.declared.code.Op.TheVariants as ops
 use Rattle.jvm_types.specs.declared.typing.VType.TheVariants as types
-use Rattle.machine_types.specs.declared.phase.Phase.TheVariants as phases
 
 -- ---- the array below the index and the value
 
@@ -85,7 +84,7 @@ pub record ElementWriter (c : MarkedProgram) (o : Object) (f : Frame) : Type 0 w
 
 pub record StoresElement (c : MarkedProgram) (o : Object) (word : ℕ) (x : Thread) : Type 0 where
   pub value : ℕ
-  pub stores : x.phase ≡ phases.Element word (Some value)
+  pub stores : x.phase ≡ Element word (Some value)
   pub top : TopWrites (ElementWriter c o) x.frames
 
 module _ (decided : OwnedIsDecided) (event : BuiltEvent) (fi word : ℕ) (o : Object) (here : Contains event.objects o) (owned : IsOwnedArrayField event.c.program (tags_of event.c) fi) (e : IsElementOf event.c event.owning.stores event.objects fi o word) where
@@ -250,9 +249,9 @@ module _ (decided : OwnedIsDecided) (event : BuiltEvent) (fi word : ℕ) (o : Ob
   by_frames [] n v keep holds top has on same = top
   by_frames (f ∷ fs) n v keep holds top has on same = by_stack f fs keep.0 holds v top n f.stack refl has on same
 
-  stores : (n v : ℕ) → x.phase ≡ phases.Element n (Some v) → FramesHold c (HasClass objects) x.frames → TopIs c (is_element_op (Some v)) x.frames → HasElementIn objects (Some v) x.frames → ElementStands n (Some v) x.frames
+  stores : (n v : ℕ) → x.phase ≡ Element n (Some v) → FramesHold c (HasClass objects) x.frames → TopIs c (is_element_op (Some v)) x.frames → HasElementIn objects (Some v) x.frames → ElementStands n (Some v) x.frames
       → n ≡ value_word e.array.reference e.index → StoresElement c o word x
-  stores n v q holds top has on same = record { value = v; stores = q ∙ ap (λ (m : ℕ). phases.Element m (Some v)) (same ∙ sym e.place); top = by_frames x.frames n v frames holds top has on same }
+  stores n v q holds top has on same = record { value = v; stores = q ∙ ap (λ (m : ℕ). Element m (Some v)) (same ∙ sym e.place); top = by_frames x.frames n v frames holds top has on same }
     where
       frames : FramesIn seen Runs x.frames
       frames = subst (λ (phase : Phase). PhaseIn seen phase x.frames) (subst (λ (phase : Phase). IsAs phase (was t)) q (place_event event).structured.is_as) keeps.frames

@@ -1,37 +1,32 @@
 -- An event that changes a field of an object is a `putfield` of that field on that object.
 use Rattle.std.proofs.Common.{◌≡◌, ◌⊎◌, inl, inr, ℕ, Bool, true, false, List, [], ◌∷◌, Some, refl, sym, ap, ◌∙◌, arith, Contains, slice_get, slice_index, if◌then◌else◌}
 use Rattle.std.proofs.lemmas.Bool.{cases_Bool}
-use Rattle.jvm_types.specs.{CodeTable.row, Members.is_static, ProgramInvariant.{IsProgram, site_in}, declared.{class_numbers.TheConstants.INT_ARRAY_CLASS, code.Op.Op, program.FieldInfo.FieldInfo}}
-use Rattle.jvm_types.specs.declared.program.{MethodInfo.MethodInfo, Target.Target}
+use Rattle.jvm_types.specs.{CodeTable.row, Members.is_static, ProgramInvariant.{IsProgram, site_in}, declared.{class_numbers.TheConstants.INT_ARRAY_CLASS, code.Op.Op}}
+use Rattle.jvm_types.specs.declared.{code.Op.TheVariants.{Iastore, Putfield}, program.{FieldInfo.FieldInfo, MethodInfo.MethodInfo, Target.{Target, TheVariants.Field}}}
 use Rattle.laws_programs.proofs.{ClassTreeLaws.leaves_alone, FieldOrder.one_instance_field}
 use Rattle.checked_program.specs.MarkedProgram.{MarkedProgram}
-use Rattle.machine_types.specs.{Accesses.words_after, Effects.{variable_of, effect}, Events.wanted, PlainMemory.Object}
-use Rattle.machine_types.specs.{Standing.Standing, Structure.{TopIs, is_element_op}, Threads.Frame}
+use Rattle.machine_types.specs.{Accesses.words_after, Effects.{variable_of, effect}, Events.wanted, PlainMemory.Object, Standing.Standing, Structure.{TopIs, is_element_op}, Threads.Frame}
 use Rattle.machine_types.specs.{Typed.{IsNullOr, FramesHold, HasClass, HasElementIn, ElementStands, IsElementOn, HasElementOn}, Words.{value_word, variable_word}}
-use Rattle.machine_types.specs.declared.{effect.{Effect.TheVariants.Writes, Variable.{Variable, TheVariants.{Instance, Static}}}}
+use Rattle.machine_types.specs.declared.effect.{Effect.TheVariants.Writes, Variable.{Variable, TheVariants.{Instance, Static}}}
 use Rattle.laws_threads.{specs.Allowed.{IsNamedField, TakenHold}, proofs.{Onwards.same_op, TopEffects.taken_here}}
-use Rattle.laws_states.{specs.Sites.{Site, ValueOf, StaticAt, IsThere}, proofs.Accesses.out_there}
-use Rattle.laws_states.proofs.{Lists.contained_got, Places.same_object}
+use Rattle.laws_states.{specs.Sites.{ValueOf, StaticAt, IsThere}, proofs.{Accesses.out_there, Lists.contained_got, Places.same_object}}
 use Rattle.laws_objects.proofs.{PlaceWriters.{PlaceEvent, IsWriter, holder_of, has_field, names_field, place_writer, instance_word, static_word}, WrittenFields.field_put}
-use Rattle.jvm_types.specs.declared.code.Op.TheVariants as ops
-use Rattle.jvm_types.specs.declared.program.Target.TheVariants as targets
 
 -- ---- a frame that writes the field of an object
 
 pub record Writer (c : MarkedProgram) (fi reference : ℕ) (f : Frame) : Type 0 where
   pub stands : Standing c f
   pub index : ℕ
-  pub is : stands.insn.op ≡ ops.Putfield index
-  pub names : stands.target ≡ targets.Field fi
+  pub is : stands.insn.op ≡ Putfield index
+  pub names : stands.target ≡ Field fi
   pub on : slice_index f.stack 1 ≡ reference
 
 -- ---- one variable of a reference
 
 one_reference : (f : FieldInfo) (v : Variable) (a b : ℕ) → is_static f.flags ≡ false → v ≡ variable_of f a → v ≡ variable_of f b → a ≡ b
-one_reference f v a b flag e h = let same : Instance a f.index ≡ Instance b f.index = sym (of_flag a) ∙ (sym e ∙ h) ∙ of_flag b in cc
-  where
-    of_flag : (r : ℕ) → variable_of f r ≡ Instance r f.index
-    of_flag r = ap (λ (t : Bool). if t then Static f.index else Instance r f.index) flag
+one_reference f v a b flag e h =
+    let of_flag : (r : ℕ) → variable_of f r ≡ Instance r f.index = λ r. ap (λ (t : Bool). if t then Static f.index else Instance r f.index) flag in
+    let same : Instance a f.index ≡ Instance b f.index = sym (of_flag a) ∙ (sym e ∙ h) ∙ of_flag b in cc
 
 module _ (event : PlaceEvent) (fi : ℕ) (field : FieldInfo) (is : slice_get event.mover.state.c.program.fields fi ≡ Some field) (instance : is_static field.flags ≡ false) (o : Object) (here : Contains event.mover.state.objects o) (of_class : o.class ≡ field.class) where
   open event.mover use {t, x, state}
@@ -40,9 +35,6 @@ module _ (event : PlaceEvent) (fi : ℕ) (field : FieldInfo) (is : slice_get eve
 
   is_program : IsProgram c.program
   is_program = marked.checked.program
-
-  abbrev place : Site
-  place = ValueOf o.reference field.index
 
   is_there : IsThere c.program objects s (ValueOf o.reference field.index)
   is_there = (o, here, refl, has_field state o fi field here is instance of_class)
@@ -81,7 +73,7 @@ module _ (event : PlaceEvent) (fi : ℕ) (field : FieldInfo) (is : slice_get eve
         stands = k;
         index = put.index;
         is = put.is;
-        names = at.named ∙ ap (λ (i : ℕ). targets.Field i) it.number_is;
+        names = at.named ∙ ap (λ (i : ℕ). Field i) it.number_is;
         on = one_reference g v (slice_index f.stack 1) at.reference it.instance_too put.variable at.variable ∙ it.reference_is;
       }
     ]
@@ -93,7 +85,7 @@ module _ (event : PlaceEvent) (fi : ℕ) (field : FieldInfo) (is : slice_get eve
 
   no_element : (n m : MethodInfo) (pc : ℕ) (target : Target) (op : Op) (w v : ℕ) (stack : List ℕ) → is_element_op (Some v) op ≡ true → TakenHold n (HasClass objects) (row c.program m pc target op).takes stack
       → HasElementOn objects (Some v) stack → IsElementOn w (Some v) stack → w ≡ value_word o.reference field.index → ⊥
-  no_element n m pc target ops.Iastore w v (u ∷ i ∷ a ∷ stack) e (first, (second, (array, rest))) has on same = by_array array
+  no_element n m pc target Iastore w v (u ∷ i ∷ a ∷ stack) e (first, (second, (array, rest))) has on same = by_array array
     where
       reference : a ≡ o.reference
       reference =
@@ -107,7 +99,7 @@ module _ (event : PlaceEvent) (fi : ℕ) (field : FieldInfo) (is : slice_get eve
           let alone : d ≡ INT_ARRAY_CLASS = leaves_alone d INT_ARRAY_CLASS refl below in
           let from = (is_program.fields fi field is).class.0 in
           omega (arith, from, of_class, ap (λ (e : Object). e.class) one, class, alone)
-  no_element n m pc target ops.Iastore w v stack e taken has on same = absurd on
+  no_element n m pc target Iastore w v stack e taken has on same = absurd on
   no_element n m pc target op w v stack e taken has on same = absurd (let bad : false ≡ true = e in cc)
 
   element_writes : (fs : List Frame) (w v : ℕ) → FramesHold c (HasClass objects) fs → TopIs c (is_element_op (Some v)) fs → HasElementIn objects (Some v) fs → ElementStands w (Some v) fs → w ≡ value_word o.reference field.index → ⊥
@@ -120,4 +112,4 @@ module _ (event : PlaceEvent) (fi : ℕ) (field : FieldInfo) (is : slice_get eve
   -- ---- the word is as it was, or the thread writes the field
 
   pub field_writer : (slice_index (words_after s.words (wanted c x x.phase)) (value_word o.reference field.index) ≡ slice_index s.words (value_word o.reference field.index)) ⊎ IsWriter (Writer c fi o.reference) x
-  field_writer = place_writer event place tt is_there (Writer c fi o.reference) writes element_writes
+  field_writer = place_writer event (ValueOf o.reference field.index) tt is_there (Writer c fi o.reference) writes element_writes

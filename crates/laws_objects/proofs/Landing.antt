@@ -4,8 +4,7 @@ use Rattle.lists.proofs.TestLaws.{both_are_true}
 use Rattle.jvm_types.specs.{CodeTable.is_init, Numbers.has_number, Types.TypeFrame, Verifying.edges, declared.{code.Insn.Insn, program.{MethodInfo.MethodInfo, Target.Target}}}
 use Rattle.jvm_types.proofs.FrameOrder.{stack_below, locals_below}
 use Rattle.laws_programs.proofs.{CodeOrder.{one_number, have_targets}, EdgeTargets.lands, EntryFrame.entry_fits_all}
-use Rattle.checked_program.specs.{FrozenPlaces.{KeepsThis, KeepsInside}, LockTags.{TagShape, IsShapeBelow}, TaggedCode.{IsAt, onward, row_of}}
-use Rattle.checked_program.specs.Tagging.{tags_after}
+use Rattle.checked_program.specs.{FrozenPlaces.{KeepsThis, KeepsInside}, LockTags.{TagShape, IsShapeBelow}, TaggedCode.{IsAt, onward, row_of}, Tagging.tags_after}
 use Rattle.laws_sections.proofs.VisitsLocal.{landing}
 use Rattle.machine_types.specs.{Construction.{puts_owned, builds, makes_frozen, SlotsAre, StackWith, Runs, IsFresh, ReceiverIs, SlotOf, IsNoStored, IsArraySlot, SlotsFrom}, Standing.{Standing, tags_of}, Threads.Frame}
 use Rattle.machine_types.specs.Worlds.{Unstored, builder, IsFinished}

@@ -2,15 +2,13 @@
 use Rattle.std.proofs.Common.{inl, inr, ◌≡◌, ◌≢◌, ℕ, ◌<◌, ◌≤◌, Bool, true, false, List, [], ◌∷◌, length, Some, None, refl, sym, ap, ◌∙◌, subst, arith, ◌==◌, if◌then◌else◌}
 use Rattle.std.proofs.lemmas.Bool.{cases_Bool, eq-eqb, eqb-true, ne_eqb}
 use Rattle.lists.proofs.{ListLaws.same_some, TestLaws.both_true}
-use Rattle.jvm_types.specs.{CodeTable.is_init, ProgramInvariant.words_of, declared.{outcome.Thrown.Thrown, program.MethodInfo.MethodInfo}}
+use Rattle.jvm_types.specs.{CodeTable.is_init, ProgramInvariant.words_of, declared.{outcome.{End.TheVariants.Uncaught, Thrown.Thrown}, program.MethodInfo.MethodInfo}}
 use Rattle.machine_types.specs.{Construction.{builds, Throws as Loose, BuilderTurn, ReceiverIs}, Going.goes_on, Onward.unwound, Threads.{Frame, Thread}}
-use Rattle.machine_types.specs.{Worlds.{Lost, Begun, Builder, builder, World, IsFinished, IsWorld, GoesOn}, declared.phase.Phase.Phase}
+use Rattle.machine_types.specs.{Worlds.{Lost, Begun, Builder, builder, World, IsFinished, IsWorld, GoesOn}, declared.phase.Phase.{Phase, TheVariants.{Ending, Throw}}}
 use Rattle.laws_threads.{specs.StructureLaws.counted_by, proofs.ThreadMove.goes_held}
 use Rattle.laws_objects.{specs.UnfinishedObjects.IsInitOn, proofs.{Buildings.{Building, in_world, FrameIn, BelowIn, FramesIn, ThreadIn}, CountedPhases.PhaseFits, FrameChanges.IsUnwound}}
 use Rattle.laws_objects.proofs.{KeptFrames.{KeepsUnder, frames_kept}, Onwards.OnwardKeeps, ThreadMoves.{MovedTo, Sees, AreKnown, held_known, in_none, moved_more_to}, ThrowingFrames.frames_unwound}
 use Rattle.laws_objects.proofs.WorldChanges.{none_some, goes_by, lost, KeepsLost}
-use Rattle.machine_types.specs.declared.phase.Phase.TheVariants as phases
-use Rattle.jvm_types.specs.declared.outcome.End.TheVariants as ends
 
 -- ---- the world in which it is lost
 
@@ -90,11 +88,11 @@ module _ (building : Building) (was : Phase) (x : Thread) (k : ThreadIn building
         → MovedTo building k.now next (counted_by was (goes_on s (unwound thrown class fs)).phase) (goes_on s (unwound thrown class fs)) (losing k.now v b)
     unfolding sees_lost
     away_to s thrown class [] keeps none held =
-        let y : Thread = record s { frames = []; phase = phases.Ending (ends.Uncaught class) } in
-        in_none building was x k world owning.stores next (counted_by was (phases.Ending (ends.Uncaught class))) y none held (sees_lost (counted_by was (phases.Ending (ends.Uncaught class))) y (tt, tt))
+        let y : Thread = record s { frames = []; phase = Ending (Uncaught class) } in
+        in_none building was x k world owning.stores next (counted_by was (Ending (Uncaught class))) y none held (sees_lost (counted_by was (Ending (Uncaught class))) y (tt, tt))
     away_to s thrown class (g ∷ gs) keeps none held =
-        let y : Thread = record s { frames = g ∷ gs; phase = phases.Throw thrown class } in
-        in_none building was x k world owning.stores next (counted_by was (phases.Throw thrown class)) y none held (sees_lost (counted_by was (phases.Throw thrown class)) y (keeps.1, keeps.0))
+        let y : Thread = record s { frames = g ∷ gs; phase = Throw thrown class } in
+        in_none building was x k world owning.stores next (counted_by was (Throw thrown class)) y none held (sees_lost (counted_by was (Throw thrown class)) y (keeps.1, keeps.0))
 
   pub leaves_lost : (more v : ℕ) (y : Thread) → next ≤ more → (u : IsUnwound was x y) → y.attempt ≡ None → (i : IsInitOn c v u.frame) → frozen i.method.class ≡ true
       → MovedTo building k.now more (counted_by was y.phase) y (losing k.now v (builder t (length u.below) Begun))

@@ -1,13 +1,12 @@
 -- Where a part of the run begins, no object is made or finished.
 use Rattle.std.proofs.Common.{◌≡◌, inl, inr, ℕ, Bool, true, false, List, Some, refl, ap, sym, subst, Contains, slice_get, if◌then◌else◌}
-use Rattle.machine_types.specs.{Construction.Construction, Core.{may_begin, next}, Structure.{IsAs, IsStructured}}
-use Rattle.machine_types.specs.{Threads.{Frame, Thread}, Worlds.{Builder, IsViewOf, IsOwnOrFinished}, declared.{lock.Held.Held, phase.Phase.Phase}}
+use Rattle.machine_types.specs.{Construction.Construction, Core.{may_begin, next}, Structure.{IsAs, IsStructured}, Threads.{Frame, Thread}, Worlds.{Builder, IsViewOf, IsOwnOrFinished}}
+use Rattle.machine_types.specs.declared.{lock.Held.Held, phase.Phase.{Phase, TheVariants.{Ended, Start}}}
 use Rattle.laws_threads.specs.{PartLaws.{NextKeepsStructure, counted_next}, StateLaws.counted_of, StructureLaws.counted_by}
 use Rattle.laws_states.proofs.BegunThreads.{StartsOrEnded, Begins, begun}
 use Rattle.laws_objects.{specs.ConstructionLaws.NextKeepsConstruction, proofs.{Buildings.{Building, in_world, TriesIn, ThreadIn, BuiltState, building_in}, CountedPhases.{PhaseFits, counted_fits}}}
 use Rattle.laws_objects.proofs.LostObjects.{SeenByAll, LostIn}
 use Rattle.jvm_types.specs.declared.outcome.End.TheVariants as ends
-use Rattle.machine_types.specs.declared.phase.Phase.TheVariants as phases
 
 -- ---- one thread
 
@@ -39,8 +38,8 @@ module _ (building : Building) (was : Phase) (z y : Thread) (begins : Begins z y
   ]
     where
       fresh : (phase : Phase) → y.phase ≡ phase → StartsOrEnded phase → IsStructured c (counted_by was phase) y → Fits y.frames (counted_by was phase)
-      fresh phases.Start e f s = subst (λ (fs : List Frame). Fits fs phases.Start) (sym s.stands.phase_shows) (tt, tt)
-      fresh (phases.Ended ends.Returned) e f s = subst (λ (fs : List Frame). Fits fs (phases.Ended ends.Returned)) (sym s.stands.phase_shows) (tt, tt)
+      fresh Start e f s = subst (λ (fs : List Frame). Fits fs Start) (sym s.stands.phase_shows) (tt, tt)
+      fresh (Ended ends.Returned) e f s = subst (λ (fs : List Frame). Fits fs (Ended ends.Returned)) (sym s.stands.phase_shows) (tt, tt)
       fresh phase e f s = absurd f
 
 -- ---- all of them

@@ -1,22 +1,19 @@
 -- An event that changes the word of a place is an instruction that writes this place.
 use Rattle.std.proofs.Common.{◌≡◌, ◌⊎◌, inl, inr, ℕ, ◌<◌, Bool, true, if◌then◌else◌, List, [], ◌∷◌, false, length, Option, Some, None, refl, sym, ap, ◌∙◌, subst, arith, Contains, slice_get, slice_index}
 use Rattle.lists.proofs.ListLaws.{same_some}
-use Rattle.jvm_types.specs.{Members.is_static, ProgramInvariant.{IsTargetOf, instances_among, site_in}, declared.program.{FieldInfo.FieldInfo, Target.Target}}
+use Rattle.jvm_types.specs.{Members.is_static, ProgramInvariant.{IsTargetOf, instances_among, site_in}, declared.program.{FieldInfo.FieldInfo, Target.{Target, TheVariants.Field}}}
 use Rattle.laws_programs.proofs.{ClassTreeLaws.files_alone, CodeOrder.have_targets, FieldOrder.instances_inside}
 use Rattle.checked_program.specs.{MarkedProgram.{MarkedProgram, IsMarked}, TaggedCode.row_of}
 use Rattle.machine_types.specs.{Accesses.{accessed, left_by, words_after}, Effects.effect, Events.wanted}
 use Rattle.machine_types.specs.{FoundWords.{Content, IntPlace, ReferencePlace, effect_content, run_content, leave_content, content_at}, Frames.{Top, top_of, effect_at}}
-use Rattle.machine_types.specs.{Instructions.{effect_wants, run_wants}, Monitors.{Claim, Has, claim}, PlainMemory.Object, Standing.Standing}
-use Rattle.machine_types.specs.{Structure.{IsStructured, Stands, TopIs, is_element_op}, Threads.{Frame, Thread}, Typed.{FramesHold, HasClass, HasElementIn, ElementStands, PhaseHolds}}
-use Rattle.machine_types.specs.{Words.{value_word, variable_word}, declared.{access.Access.{Access, TheVariants.Store}, effect.{Effect.{Effect, TheVariants.{Reads, Writes}}, Variable.{Variable, TheVariants.{Instance, Static}}}, lock.Kept.Kept}}
-use Rattle.machine_types.specs.declared.phase.Phase.{Phase}
+use Rattle.machine_types.specs.{Instructions.{effect_wants, run_wants}, Monitors.{Claim, Has, claim}, PlainMemory.Object, Standing.Standing, Structure.{IsStructured, Stands, TopIs, is_element_op}}
+use Rattle.machine_types.specs.{Threads.{Frame, Thread}, Typed.{FramesHold, HasClass, HasElementIn, ElementStands, PhaseHolds}, Words.{value_word, variable_word}, declared.access.Access.Access}
+use Rattle.machine_types.specs.declared.{access.Access.TheVariants.Store, effect.{Effect.{Effect, TheVariants.{Reads, Writes}}, Variable.{Variable, TheVariants.{Instance, Static}}}, lock.Kept.Kept}
+use Rattle.machine_types.specs.declared.{lock.Kept.TheVariants.{Fat, Flat}, phase.Phase.{Phase, TheVariants.{Element, Leave, Run}}}
 use Rattle.laws_threads.{specs.Allowed.{IsOf, IsNamedField, Allowed}, proofs.{Landing.stand_top, Standings.top_here, TopEffects.allowed_here}}
 use Rattle.laws_states.{specs.Sites.{Site, ValueOf, StaticAt, site_word, IsThere, Suits}, proofs.Accesses.out_there}
 use Rattle.laws_states.proofs.{EventWords.{word_at}, LeftStands.loaded, Lists.contained_got, Movers.{HeapState, HeapMover, KnownSites, heap_mover}}
 use Rattle.laws_objects.proofs.Buildings.{BuiltState}
-use Rattle.jvm_types.specs.declared.program.Target.TheVariants as targets
-use Rattle.machine_types.specs.declared.lock.Kept.TheVariants as keeps
-use Rattle.machine_types.specs.declared.phase.Phase.TheVariants as phases
 
 -- ---- places: fields, elements and static fields
 
@@ -38,12 +35,12 @@ place_suits content place is suits = absurd (assumption)
 
 -- a monitor is left at none
 pub leave_of_none : (claimed : Claim) → IsOfPlace (leave_content claimed) → ⊥
-leave_of_none (Has h) is = (elim h.kept as (λ (k : Kept). IsOfPlace (leave_content (Has (record h { kept = k }))) → ⊥) [ keeps.Flat count ↦ λ is. is | keeps.Fat r ↦ λ is. is ]) is
+leave_of_none (Has h) is = (elim h.kept as (λ (k : Kept). IsOfPlace (leave_content (Has (record h { kept = k }))) → ⊥) [ Flat count ↦ λ is. is | Fat r ↦ λ is. is ]) is
 leave_of_none claimed is = is
 
 -- ---- the field that an instruction names
 
-pub names_field : (c : MarkedProgram) (f : Frame) (k : Standing c f) (number : ℕ) → IsMarked c → k.target ≡ targets.Field number → IsTargetOf c.program (site_in k.method) k.insn.op (targets.Field number)
+pub names_field : (c : MarkedProgram) (f : Frame) (k : Standing c f) (number : ℕ) → IsMarked c → k.target ≡ Field number → IsTargetOf c.program (site_in k.method) k.insn.op (Field number)
 names_field c f k number marked named =
     let found = have_targets c.program f.method k.number k.method k.insn marked.checked.program k.at.in_program k.at.in_code in
     let target : found.0 ≡ k.target = same_some (sym found.1 ∙ k.at.names) in
@@ -92,7 +89,7 @@ TopWrites IsSuch [] = ⊥
 TopWrites IsSuch (f ∷ fs) = IsSuch f
 
 pub record IsWriter (IsSuch : Frame → Type 0) (x : Thread) : Type 0 where
-  pub runs : x.phase ≡ phases.Run
+  pub runs : x.phase ≡ Run
   pub top : TopWrites IsSuch x.frames
 
 -- ---- an event, and what is known of sites
@@ -133,7 +130,7 @@ module _ (event : PlaceEvent) where
 
   -- or one that stores an element, which gives Stored
   module _ (place : Site) (is_place : IsPlace place) (is_there : IsThere c.program objects s place) (IsSuch : Frame → Type 0) (Stored : Type 0) (writes : Write place IsSuch)
-      (stores : (w v : ℕ) → x.phase ≡ phases.Element w (Some v) → FramesHold c (HasClass objects) x.frames → TopIs c (is_element_op (Some v)) x.frames → HasElementIn objects (Some v) x.frames → ElementStands w (Some v) x.frames → w ≡ site_word place → Stored) where
+      (stores : (w v : ℕ) → x.phase ≡ Element w (Some v) → FramesHold c (HasClass objects) x.frames → TopIs c (is_element_op (Some v)) x.frames → HasElementIn objects (Some v) x.frames → ElementStands w (Some v) x.frames → w ≡ site_word place → Stored) where
     -- ---- an instruction
 
     module _ (access : Access) (got : ℕ) (word : accessed access ≡ site_word place) where
@@ -157,13 +154,13 @@ module _ (event : PlaceEvent) where
       -- ---- all phases
 
       phase_writes : (phase : Phase) → x.phase ≡ phase → wanted c x phase ≡ Some access → IsOfPlace (content_at c x phase) → PhaseHolds c (HasClass objects) phase x.frames
-          → ((w v : ℕ) → phase ≡ phases.Element w (Some v) → TopIs c (is_element_op (Some v)) x.frames) → (left_by access got ≡ got) ⊎ IsWriter IsSuch x ⊎ Stored
-      phase_writes phases.Run e w is h top = elim (run_writes x.frames h w is) [ inl same ↦ inl same | inr k ↦ inr (inl (record { runs = e; top = k })) ]
-      phase_writes (phases.Element n None) e w is h top = inl (loaded (λ n. n ≡ got) access got refl n w)
-      phase_writes (phases.Element n (Some v)) e w is h top =
+          → ((w v : ℕ) → phase ≡ Element w (Some v) → TopIs c (is_element_op (Some v)) x.frames) → (left_by access got ≡ got) ⊎ IsWriter IsSuch x ⊎ Stored
+      phase_writes Run e w is h top = elim (run_writes x.frames h w is) [ inl same ↦ inl same | inr k ↦ inr (inl (record { runs = e; top = k })) ]
+      phase_writes (Element n None) e w is h top = inl (loaded (λ n. n ≡ got) access got refl n w)
+      phase_writes (Element n (Some v)) e w is h top =
           let same : Store n v ≡ access = same_some w in
           inr (inr (stores n v e h.1 (top n v refl) (heap.typed.elements t x n (Some v) there e) h.0 (ap accessed same ∙ word)))
-      phase_writes (phases.Leave m after) e w is h top = absurd (leave_of_none (claim x m) is)
+      phase_writes (Leave m after) e w is h top = absurd (leave_of_none (claim x m) is)
       phase_writes phase e w is h top = absurd is
 
     -- ---- the word is as it was, or the thread writes the place
@@ -171,10 +168,10 @@ module _ (event : PlaceEvent) where
     abbrev pub Stays : Type 0
     Stays = slice_index (words_after s.words (wanted c x x.phase)) (site_word place) ≡ slice_index s.words (site_word place)
 
-    at_element : (w v : ℕ) → x.phase ≡ phases.Element w (Some v) → TopIs c (is_element_op (Some v)) x.frames
+    at_element : (w v : ℕ) → x.phase ≡ Element w (Some v) → TopIs c (is_element_op (Some v)) x.frames
     at_element w v e =
-        let k : IsStructured c was (record x { phase = phases.Element w (Some v) }) = subst (λ (phase : Phase). IsStructured c was (record x { phase = phase })) e structured in
-        let stands : Stands c (phases.Element w (Some v)) x.frames x.held x.attempt = subst (λ (phase : Phase). Stands c phase x.frames x.held x.attempt) k.is_as structured.stands in
+        let k : IsStructured c was (record x { phase = Element w (Some v) }) = subst (λ (phase : Phase). IsStructured c was (record x { phase = phase })) e structured in
+        let stands : Stands c (Element w (Some v)) x.frames x.held x.attempt = subst (λ (phase : Phase). Stands c phase x.frames x.held x.attempt) k.is_as structured.stands in
         stands.phase_shows
 
     pub place_changer : Stays ⊎ IsWriter IsSuch x ⊎ Stored

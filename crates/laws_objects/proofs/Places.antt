@@ -11,15 +11,13 @@ use Rattle.machine_types.specs.{OwnedPlaces.Stores, PlainMemory.{Object, new_obj
 use Rattle.machine_types.specs.{Words.{header_word, header_class, value_word, variable_word, object_size, array_size}, Worlds.{World, IsFinished, IsWorld, GoesOn}, declared.access.Access.Access}
 use Rattle.machine_types.specs.declared.{access.Access.TheVariants.{Load, Store, Cas, Add, Or, And, Rest}, effect.Effect.Effect}
 use Rattle.machine_types.specs.declared.effect.{Effect.TheVariants.{Goes, Reads, Writes, Indexes, Measures, Raises, Makes, Prints, Calls}, Variable.{Variable, TheVariants.{Instance, Static}}}
-use Rattle.machine_types.specs.declared.lock.Kept.{Kept}
+use Rattle.machine_types.specs.declared.{lock.Kept.{Kept, TheVariants.{Fat, Flat}}, phase.Phase.TheVariants.Made}
 use Rattle.laws_threads.{specs.Allowed.{IsNamedField, Allowed}, proofs.MonitorMoves.contains_got}
 use Rattle.laws_states.specs.Sites.{Site, Counter, ValueOf, NewHeaderOf, StaticAt, site_word, IsThere, Suits, ReachesIf}
 use Rattle.laws_states.proofs.{Accesses.ElementSite, Movers.HeapState, Lists.{contained_got, contains_more, same_or_not, set_here, set_there}, Places.same_object, Sites.{sites_apart, sites_inside}, WordViews.set_self}
 use Rattle.laws_objects.proofs.{Buildings.first_finished, BuiltEffects.KindOld, PlaceWriters.{has_field, holder_of}, Views.finished_on}
 use Rattle.jvm_types.specs.declared.program.Kind.TheVariants as kinds
 use Rattle.machine_types.specs.Words as words
-use Rattle.machine_types.specs.declared.lock.Kept.TheVariants as keeps
-use Rattle.machine_types.specs.declared.phase.Phase.TheVariants as phases
 
 -- what is neither a field nor an element
 abbrev pub IsPlain : Content → Type 0
@@ -28,7 +26,7 @@ IsPlain ReferencePlace = ⊥
 IsPlain content = Unit {0}
 
 pub leave_plain : (claim : Claim) → IsPlain (leave_content claim)
-leave_plain (Has h) = elim h.kept as (λ (kept : Kept). IsPlain (leave_content (Has (record h { kept = kept })))) [ keeps.Flat n ↦ tt | keeps.Fat r ↦ tt ]
+leave_plain (Has h) = elim h.kept as (λ (kept : Kept). IsPlain (leave_content (Has (record h { kept = kept })))) [ Flat n ↦ tt | Fat r ↦ tt ]
 leave_plain claim = tt
 
 -- an event, in a world: what is owned, and what was stored before it and behind it
@@ -190,7 +188,7 @@ module _ (change : PlaceChange) where
 
   -- ---- a new object
 
-  pub made_places : (x : Thread) (a word : ℕ) → after 0 ≡ None → IsWorld later (words_of c.program) more → slice_get s.threads t ≡ Some x → x.phase ≡ phases.Made a word
+  pub made_places : (x : Thread) (a word : ℕ) → after 0 ≡ None → IsWorld later (words_of c.program) more → slice_get s.threads t ≡ Some x → x.phase ≡ Made a word
       → PlacesKeep c (record own { stores = after }) later more (new_object a word (size_by c.program word) ∷ objects) (slice_set s.words (header_word a) word)
   made_places x a word null is there made = record {
     fields = λ o number f l g n class.

@@ -2,22 +2,20 @@
 use Rattle.std.proofs.Common.{◌≡◌, ℕ, suc, ◌⊎◌, inl, inr, Bool, true, false, ◌||◌, ◌&&◌, List, [], ◌∷◌, ◌++◌, length, Some, refl, sym, ap, ◌∙◌, subst, arith, ◌==◌, slice_get, if◌then◌else◌}
 use Rattle.std.{specs.List.list_any, proofs.lemmas.Bool.{cases_Bool, Decides.nat_tests, false_from_ne_true}}
 use Rattle.lists.proofs.{ListLaws.same_some, TestLaws.{first_true, second_true}}
-use Rattle.jvm_types.specs.{ClassTree.is_subclass, CodeTable.{branches_to, falls_through}, Numbers.has_number, Verifying.{covers, edges, IsLaidOut}}
-use Rattle.jvm_types.specs.declared.{code.{Insn.Insn, Op.Op}, program.{MethodInfo.MethodInfo, Row.Row, Target.Target}}
+use Rattle.jvm_types.specs.{ClassTree.is_subclass, CodeTable.{branches_to, falls_through}, Numbers.has_number, Verifying.{covers, edges, IsLaidOut}, declared.code.{Insn.Insn, Op.Op}}
+use Rattle.jvm_types.specs.declared.{code.Op.TheVariants.{Newarray, Putfield}, program.{MethodInfo.MethodInfo, Row.Row, Target.{Target, TheVariants.Field}}}
 use Rattle.laws_programs.proofs.CodeOrder.{one_number, short, follows, have_targets}
 use Rattle.checked_program.specs.{LockTags.TagShape, MarkedProgram.{MarkedProgram, IsMarked}, OwnedArrays.{StoresNew, PutsNew}, TaggedCode.IsAt}
 use Rattle.machine_types.specs.{Construction.{Owning, AreOwned, puts_owned}, Frames.handler_of, Standing.tags_of}
 use Rattle.laws_threads.proofs.{MarkedMethods.method_at, Throws.any_at}
-use Rattle.jvm_types.specs.declared.code.Op.TheVariants as ops
-use Rattle.jvm_types.specs.declared.program.Target.TheVariants as targets
 
 abbrev pub is_newarray : Op → Bool
-is_newarray ops.Newarray = true
+is_newarray Newarray = true
 is_newarray op = false
 
 -- no other instruction is one
-pub newarray_is : (op : Op) → is_newarray op ≡ true → op ≡ ops.Newarray
-newarray_is ops.Newarray e = refl
+pub newarray_is : (op : Op) → is_newarray op ≡ true → op ≡ Newarray
+newarray_is Newarray e = refl
 newarray_is op e = absurd (let bad : false ≡ true = e in cc)
 
 -- ---- branches
@@ -46,7 +44,7 @@ module _ (c : MarkedProgram) (marked : IsMarked c) (owning : Owning) (owns : Are
   stores_new mi j m other next u at e = by_op other.op next e (λ fi owned. (owns.those fi owned).new mi j m other next u at)
     where
       by_op : (op : Op) (target : Target) → puts_owned owning.owned op target ≡ true → ((fi : ℕ) → owning.owned fi ≡ true → PutsNew fi m j other.pc op target) → StoresNew m j other.pc
-      by_op (ops.Putfield i) (targets.Field fi) e h = h fi e refl
+      by_op (Putfield i) (Field fi) e h = h fi e refl
       by_op op target e h = absurd (let bad : false ≡ true = e in cc)
 
   module _ (mi j : ℕ) (m : MethodInfo) (other : Insn) (next : Target) (u : TagShape) (at : IsAt c.program (tags_of c) mi j m other next u) where

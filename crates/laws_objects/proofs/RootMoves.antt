@@ -6,11 +6,10 @@ use Rattle.jvm_types.specs.{ClassNames.file_class, CodeTable.is_init, Members.is
 use Rattle.jvm_types.specs.declared.{outcome.Thrown.TheVariants.StackOverflowError, program.{Kind.Kind, MethodInfo.MethodInfo, Program.Program}}
 use Rattle.checked_program.{specs.MarkedProgram.checked_part, proofs.CheckedPlaces.called_fit_all}
 use Rattle.machine_types.specs.{Bounds.part_roots, Events.thread_started, Frames.{has_room, entry_frame}, Onward.{Running, Uncaught, root_arguments, rooted}, OwnedPlaces.IsStoredNowhere}
-use Rattle.machine_types.specs.{Parts.{numbers_of, is_entry_named, entries_named, init_roots}, Worlds.IsFinished}
+use Rattle.machine_types.specs.{Parts.{numbers_of, is_entry_named, entries_named, init_roots}, Worlds.IsFinished, declared.phase.Phase.TheVariants.Start}
 use Rattle.laws_threads.{specs.StructureLaws.StaysStructured, proofs.{Roots.{IsSomeRoot, part_root, numbered}, ThreadMove.counting}}
 use Rattle.laws_objects.proofs.{Buildings.{LawfulBuilding, Moving, in_world, null, sees}, Calling.not_built, EnteredFrames.{ArgsOld, static_enters}, MonitorMoves.{Goal, none_in, held, goes_if, never}}
 use Rattle.laws_objects.proofs.{Moves.stays, Onwards.{OnwardKeeps, IfKeeps}, PutPlaces.by_append, ThreadMoves.from_same}
-use Rattle.machine_types.specs.declared.phase.Phase.TheVariants as phases
 
 -- ---- the methods with these numbers
 
@@ -76,10 +75,10 @@ module _ (lawful : LawfulBuilding) where
 module _ (moving : Moving) where
   open moving use {c, was, x}
 
-  pub starts_as : (n : ℕ) (roots : List ℕ) (number : ℕ) → AllByRecursion (λ (number : ℕ). IsTrue (has_number (part_roots c.program x.number x.part) number)) (number ∷ roots) → was ≡ phases.Start → StaysStructured c was (thread_started c.program (counting n x) (number ∷ roots))
+  pub starts_as : (n : ℕ) (roots : List ℕ) (number : ℕ) → AllByRecursion (λ (number : ℕ). IsTrue (has_number (part_roots c.program x.number x.part) number)) (number ∷ roots) → was ≡ Start → StaysStructured c was (thread_started c.program (counting n x) (number ∷ roots))
       → Goal moving (thread_started c.program (counting n x) (number ∷ roots))
   starts_as n roots number all e stands =
       let o = option_map (rooted c.program x.number number) (slice_get c.program.methods number) in
       goes_if moving (record x { roots = roots; counts = record x.counts { instructions = n } }) o refl refl (from_same x.attempt) (held moving) stands
-      (never moving o (none_in moving phases.Start (λ m q. q) e))
+      (never moving o (none_in moving Start (λ m q. q) e))
       (root_if (sees moving) x.number x.part number all.0)

@@ -2,7 +2,7 @@
 use Rattle.std.proofs.Common.{◌≡◌, ◌⊎◌, inl, inr, ℕ, true, false, List, [], ◌∷◌, Some, sym, ap, ◌∙◌, subst, slice_get, slice_index}
 use Rattle.std.proofs.lemmas.Bool.{cases_Bool}
 use Rattle.lists.proofs.ListLaws.{same_some}
-use Rattle.jvm_types.specs.{CodeTable.put_row, Members.is_static, ProgramInvariant.site_in, declared.{code.Op.Op, program.{FieldInfo.FieldInfo, Target.Target}}}
+use Rattle.jvm_types.specs.{CodeTable.put_row, Members.is_static, ProgramInvariant.site_in, declared.{code.Op.{Op, TheVariants.{Putfield, Putstatic}}, program.{FieldInfo.FieldInfo, Target.Target}}}
 use Rattle.laws_programs.{specs.TargetLaws.{HasRow, NamesField}, proofs.FieldOrder.one_static_field}
 use Rattle.checked_program.specs.{MarkedProgram.MarkedProgram, TaggedCode.row_of}
 use Rattle.machine_types.specs.{Accesses.words_after, Effects.effect, Events.wanted, Standing.Standing, Structure.{TopIs, is_element_op}}
@@ -11,14 +11,13 @@ use Rattle.machine_types.specs.declared.{effect.{Effect.TheVariants.Writes, Vari
 use Rattle.laws_threads.{specs.Allowed.IsNamedField, proofs.Landing.rules_at}
 use Rattle.laws_states.specs.Sites.{ValueOf, StaticAt, IsThere}
 use Rattle.laws_objects.proofs.{PlaceWriters.{PlaceEvent, IsWriter, holder_of, names_field, place_writer, instance_word, static_word}, WrittenFields.{field_put}}
-use Rattle.jvm_types.specs.declared.code.Op.TheVariants as ops
 use Rattle.jvm_types.specs.declared.program.Target.TheVariants as targets
 
 -- a frame that writes the field
 pub record StaticWriter (c : MarkedProgram) (fi : ℕ) (f : Frame) : Type 0 where
   pub stands : Standing c f
   pub index : ℕ
-  pub is : stands.insn.op ≡ ops.Putstatic index
+  pub is : stands.insn.op ≡ Putstatic index
   pub names : stands.target ≡ targets.Field fi
 
 module _ (event : PlaceEvent) (fi : ℕ) (field : FieldInfo) (is : slice_get event.mover.state.c.program.fields fi ≡ Some field) (static : is_static field.flags ≡ true) where
@@ -43,7 +42,7 @@ module _ (event : PlaceEvent) (fi : ℕ) (field : FieldInfo) (is : slice_get eve
     ]
 
     -- a `putfield` names no static field
-    no_putfield : (index : ℕ) → k.insn.op ≡ ops.Putfield index → is_static g.flags ≡ true → ⊥
+    no_putfield : (index : ℕ) → k.insn.op ≡ Putfield index → is_static g.flags ≡ true → ⊥
     no_putfield index put flag =
         let row = (rules_at c marked f k).has_row in
         let here : HasRow c.program (site_in k.method) k.insn.pc (targets.Field at.number) k.insn.op (row_of c.program k.method k.insn k.target) =

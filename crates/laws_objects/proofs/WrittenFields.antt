@@ -1,10 +1,9 @@
 -- An instruction that writes an instance field is a `putfield`, on the object below the value on its stack, and one that writes a
 -- static field is a `putstatic`.
 use Rattle.std.proofs.Common.{◌≡◌, ◌⊎◌, inl, inr, ℕ, Bool, true, false, List, [], ◌∷◌, Option, Some, None, refl, sym, ap, ◌∙◌, slice_get, slice_index, ◌==◌, if◌then◌else◌}
-use Rattle.jvm_types.specs.{Members.MethodSite, ProgramInvariant.IsTargetOf, declared.{code.Op.Op, program.{FieldInfo.FieldInfo, Program.Program}}}
+use Rattle.jvm_types.specs.{Members.MethodSite, ProgramInvariant.IsTargetOf, declared.{code.Op.Op, outcome.Thrown.TheVariants.NullPointerException, program.{FieldInfo.FieldInfo, Program.Program}}}
 use Rattle.machine_types.specs.{Effects.{variable_of, kept, gets_static, puts_static, gets, puts, effect}, declared.effect.{Effect.TheVariants.{Reads, Throws, Writes}, Variable.Variable}}
 use Rattle.jvm_types.specs.declared.code.Op.TheVariants as ops
-use Rattle.jvm_types.specs.declared.outcome.Thrown.TheVariants as thrown
 use Rattle.jvm_types.specs.declared.program.Target.TheVariants as targets
 
 -- it writes the variable on the object that stands below the value
@@ -27,7 +26,7 @@ no_static_read None v word e = cc
 no_static_read (Some f) v word e = cc
 
 pub no_read : (f : Option FieldInfo) (stack : List ℕ) (v : Variable) (word : ℕ) → gets f stack ≡ Writes v word → ⊥
-no_read (Some f) (a ∷ stack) v word e = (elim (a == 0) as (λ (b : Bool). (if b then Throws thrown.NullPointerException else Reads (variable_of f a)) ≡ Writes v word → ⊥) [ true ↦ λ e. cc | false ↦ λ e. cc ]) e
+no_read (Some f) (a ∷ stack) v word e = (elim (a == 0) as (λ (b : Bool). (if b then Throws NullPointerException else Reads (variable_of f a)) ≡ Writes v word → ⊥) [ true ↦ λ e. cc | false ↦ λ e. cc ]) e
 no_read f stack v word e = cc
 
 puts_static_of : (f : FieldInfo) (stack : List ℕ) (v : Variable) (word : ℕ) → puts_static (Some f) stack ≡ Writes v word → v ≡ variable_of f 0
@@ -38,7 +37,7 @@ puts_of : (i : ℕ) (f : FieldInfo) (stack : List ℕ) (v : Variable) (word : �
 puts_of i f [] v word e = absurd (cc)
 puts_of i f (n ∷ []) v word e = absurd (cc)
 puts_of i f (n ∷ a ∷ stack) v word e =
-    (elim (a == 0) as (λ (b : Bool). (if b then Throws thrown.NullPointerException else Writes (variable_of f a) (kept f.kind n)) ≡ Writes v word → Puts (ops.Putfield i) f (n ∷ a ∷ stack) v)
+    (elim (a == 0) as (λ (b : Bool). (if b then Throws NullPointerException else Writes (variable_of f a) (kept f.kind n)) ≡ Writes v word → Puts (ops.Putfield i) f (n ∷ a ∷ stack) v)
     [ true ↦ λ e. absurd (cc) | false ↦ λ e. record { index = i; is = refl; variable = same_variable (variable_of f a) v (kept f.kind n) word e } ]) e
 
 -- an instruction that names the field, and writes a variable
