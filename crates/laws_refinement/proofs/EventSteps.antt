@@ -1,8 +1,7 @@
 -- Each event of a thread in no attempt is of one of the kinds whose steps are known.
-use Rattle.std.proofs.Common.{◌≡◌, ◌⊎◌, inl, inr, ℕ, ◌<◌, List, [], ◌∷◌, length, refl, sym, subst, arith}
+use Rattle.std.proofs.Common.{◌≡◌, ◌⊎◌, inl, inr, ℕ, ◌<◌, List, [], ◌∷◌, length, refl, subst, arith}
 use Rattle.checked_program.specs.MarkedProgram.{MarkedProgram}
-use Rattle.machine_types.specs.{Bounds.FramesFit, Frames.effect_at, Lawful.within, Threads.{Frame, Thread}, Typed.PhaseHolds}
-use Rattle.machine_types.specs.declared.{effect.Effect.{Effect, TheVariants.{Writes, Indexes, Makes, Waits, Notifies, NotifiesAll}}, phase.Phase.Phase}
+use Rattle.machine_types.specs.{Bounds.FramesFit, Frames.effect_at, Lawful.within, Threads.{Frame, Thread}, Typed.PhaseHolds, declared.{effect.Effect.{Effect, TheVariants.Writes}, phase.Phase.Phase}}
 use Rattle.laws_threads.{specs.TopFrames.Begun, proofs.TopStand.frames_stand}
 use Rattle.laws_states.specs.{RunFacts.HaveWidth}
 use Rattle.laws_simulation.{specs.{StepsBeside.{IsAtEffect, StepsWhere, IsOfFrames, IsOfMemory, IsOfWaiting, GoesOnPhase, LocksPhase, WaitsPhase}}, proofs.Turns.{Turn, StepsOf}}
@@ -13,12 +12,12 @@ use Rattle.machine_types.specs.declared.phase.Phase.TheVariants as phases
 
 kind_of : (e : Effect) → IsOfFrames e ⊎ IsOfMemory e ⊎ IsOfWaiting e
 kind_of (Writes v word) = inr (inl tt)
-kind_of (Indexes array index stored) = inr (inl tt)
-kind_of (Makes word size) = inr (inl tt)
-kind_of (Waits m) = inr (inr tt)
-kind_of (Notifies m) = inr (inr tt)
-kind_of (NotifiesAll m) = inr (inr tt)
-kind_of e = inl tt
+kind_of e = search (inl, inr, tt)
+
+-- and of another phase
+kind_in : (phase : Phase) → (phase ≡ phases.Run) ⊎ GoesOnPhase phase ⊎ LocksPhase phase ⊎ WaitsPhase phase
+kind_in phases.Run = inl refl
+kind_in phase = search (inl, inr, tt)
 
 module _ (laws : AreEventLaws) (turn : Turn) (width : HaveWidth turn.cfg) where
   open turn use {c, cfg, objects, was, s, t, x, q, marked, facts, beside, here, outside}
@@ -43,29 +42,10 @@ module _ (laws : AreEventLaws) (turn : Turn) (width : HaveWidth turn.cfg) where
       by_kind b (inr (inl k)) = by_effect IsOfMemory laws.memory b k
       by_kind b (inr (inr k)) = by_effect IsOfWaiting laws.waiting b k
 
-  onward : GoesOnPhase x.phase → StepsOf turn
-  onward = by_law (λ c x. GoesOnPhase x.phase) laws.onward
-
-  locks : LocksPhase x.phase → StepsOf turn
-  locks = by_law (λ c x. LocksPhase x.phase) laws.locks
-
-  by_phase : (phase : Phase) → x.phase ≡ phase → StepsOf turn
-  by_phase phases.Run e = begins e
-  by_phase phases.Start e = onward (subst GoesOnPhase (sym e) tt)
-  by_phase (phases.Element word stored) e = onward (subst GoesOnPhase (sym e) tt)
-  by_phase (phases.Made a word) e = onward (subst GoesOnPhase (sym e) tt)
-  by_phase (phases.Throw y class) e = onward (subst GoesOnPhase (sym e) tt)
-  by_phase (phases.Enter m tried) e = locks (subst LocksPhase (sym e) tt)
-  by_phase (phases.Acquire m) e = locks (subst LocksPhase (sym e) tt)
-  by_phase (phases.Take m count) e = locks (subst LocksPhase (sym e) tt)
-  by_phase (phases.Flag m u) e = locks (subst LocksPhase (sym e) tt)
-  by_phase (phases.TakeFat m r) e = locks (subst LocksPhase (sym e) tt)
-  by_phase (phases.Leave m a) e = locks (subst LocksPhase (sym e) tt)
-  by_phase (phases.Grow m toward) e = locks (subst LocksPhase (sym e) tt)
-  by_phase (phases.FlatOut m a) e = locks (subst LocksPhase (sym e) tt)
-  by_phase (phases.Own m r toward) e = locks (subst LocksPhase (sym e) tt)
-  by_phase (phases.FatIn m r toward) e = locks (subst LocksPhase (sym e) tt)
-  by_phase phase e = (by_law (λ c x. WaitsPhase x.phase) laws.wait_phases) (subst WaitsPhase (sym e) tt)
-
   pub steps_beside : StepsOf turn
-  steps_beside = by_phase x.phase refl
+  steps_beside = elim (kind_in x.phase) [
+    | inl e ↦ begins e
+    | inr (inl k) ↦ by_law (λ c x. GoesOnPhase x.phase) laws.onward k
+    | inr (inr (inl k)) ↦ by_law (λ c x. LocksPhase x.phase) laws.locks k
+    | inr (inr (inr k)) ↦ by_law (λ c x. WaitsPhase x.phase) laws.wait_phases k
+  ]

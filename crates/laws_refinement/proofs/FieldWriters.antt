@@ -1,21 +1,17 @@
 -- An event that changes a private or final field of an object is an instruction of a method of the object's class.
 use Rattle.std.proofs.Common.{◌≡◌, ◌⊎◌, inl, inr, ℕ, Bool, true, false, not, ◌&&◌, ◌==◌, List, [], ◌∷◌, Option, Some, None, refl, subst, Contains, IsSomeAnd, slice_get, slice_index}
 use Rattle.std.proofs.lemmas.Bool.{and_parts, Decides.Decides-eqb}
-use Rattle.jvm_types.specs.Members.{is_final, is_private, is_static, is_hidden, is_other_sort, first_rule, field_rule, initializes, is_init_name}
-use Rattle.jvm_types.specs.{ProgramInvariant.{IsTargetOf, site_in}, declared.{code.Op.Op, program.{FieldInfo.FieldInfo, MethodInfo.MethodInfo, Program.Program}}}
+use Rattle.jvm_types.specs.{Members.{is_final, is_private, is_static, is_hidden, is_other_sort, first_rule, field_rule, initializes, is_init_name}, ProgramInvariant.{IsTargetOf, site_in}}
+use Rattle.jvm_types.specs.declared.{code.Op.Op, program.{FieldInfo.FieldInfo, MethodInfo.MethodInfo, Program.Program, Target.TheVariants.Field}, refusal.LRule.TheVariants.{L2, L3, L7}}
 use Rattle.machine_types.specs.{Accesses.words_after, Events.wanted, PlainMemory.Object, Threads.Frame, Words.value_word}
 use Rattle.laws_objects.proofs.{FieldWriters.{Writer, field_writer as writer_of}, PlaceWriters.{BuiltEvent, TopWrites, names_field, place_event}}
 use Rattle.laws_sections.proofs.FieldWrites.{in_init}
-use Rattle.jvm_types.specs.declared.refusal.LRule.TheVariants.{L2, L3, L7}
-use Rattle.jvm_types.specs.declared.program.Target.TheVariants as targets
 
 -- ---- a private field, and a final one, is written by a method of its own class alone
 
 both_not : (a b c : Bool) → first_rule ((a, L2) ∷ (b, L3) ∷ (c, L7) ∷ []) ≡ None → (b ≡ false) × (c ≡ false)
-both_not true b c e = absurd (cc)
-both_not false true c e = absurd (cc)
-both_not false false true e = absurd (cc)
 both_not false false false e = (refl, refl)
+both_not a b c e = absurd (cc)
 
 module _ (m : MethodInfo) (class flags : ℕ) (rule : field_rule false true (site_in m) class flags ≡ None) where
   none : (is_hidden (site_in m) class flags ≡ false) × ((is_final flags && not (initializes (site_in m) false class)) ≡ false)
@@ -44,7 +40,7 @@ module _ (its : BuiltEvent) (fi : ℕ) (field : FieldInfo) (is : slice_get its.c
   top_of_class reference [] writer = writer
   top_of_class reference (f ∷ fs) writer =
       let k = writer.stands in
-      let rule = subst (λ (op : Op). IsTargetOf c.program (site_in k.method) op (targets.Field fi)) writer.is (names_field c f k fi marked writer.names) in
+      let rule = subst (λ (op : Op). IsTargetOf c.program (site_in k.method) op (Field fi)) writer.is (names_field c f k fi marked writer.names) in
       (k.method, k.at.in_program, class_of_writer c.program k.method fi field is rule restricted)
 
   -- the word is as it was, or a method of the field's class runs

@@ -1,14 +1,13 @@
 -- A thread inside an attempt goes on as its replay does.
 use Rattle.std.proofs.Common.{◌≡◌, ℕ, suc, ◌<◌, Bool, true, false, cond, List, [], ◌∷◌, ◌++◌, length, Option, Some, None, refl, sym, ap, ◌∙◌, subst, arith, ◌==◌, nat_lt, option_and_then, slice_index}
 use Rattle.lists.proofs.TestLaws.{same_number}
-use Rattle.jvm_types.specs.declared.{outcome.End.End, program.Program.Program}
+use Rattle.jvm_types.specs.declared.{outcome.End.{End, TheVariants.Steps}, program.Program.Program}
 use Rattle.checked_program.specs.MarkedProgram.{MarkedProgram}
-use Rattle.machine_types.specs.{Attempts.IsReadBegun, Elision.put_back, Going.goes_on, History.with_begun, Onward.{Onward, Running, Throwing, Entering, Leaving, RootReturned, Uncaught}, PlainState.{PlainThread, Status}}
+use Rattle.machine_types.specs.{Attempts.IsReadBegun, Elision.put_back, Going.goes_on, History.with_begun, Onward.{Onward, Running, Throwing, Entering, Leaving}, PlainState.{PlainThread, Status}}
 use Rattle.machine_types.specs.{Replay.{Alone, goes, only_on, replay_act, replayed, begun_and_done, status_inside, at_entry, at_present}, Structure.{IsAs, IsStructured, IsPhaseInside, AttemptStands, AttemptStandsIn}}
 use Rattle.machine_types.specs.{Threads.{Attempt, Thread}, declared.{phase.Phase.Phase, plain.Act.Act}}
 use Rattle.laws_threads.specs.EntryFrames.{KeepsEntry}
 use Rattle.laws_states.proofs.PlainMoves.{goes_attempt}
-use Rattle.jvm_types.specs.declared.outcome.End.TheVariants as ends
 use Rattle.machine_types.specs.PlainState as plain
 use Rattle.machine_types.specs.declared.phase.Phase.TheVariants as phases
 
@@ -56,7 +55,7 @@ replayed_more p m memory (act ∷ due) acts x y e = (elim (replay_act p m memory
 
 -- ---- how a thread goes on
 
-pub running_now : (b : Bool) (now : Phase) → IsAs (cond b phases.Run (phases.Ending ends.Steps)) now → now ≡ phases.Run
+pub running_now : (b : Bool) (now : Phase) → IsAs (cond b phases.Run (phases.Ending Steps)) now → now ≡ phases.Run
 running_now true now e = e
 running_now false now e = e
 
@@ -95,8 +94,7 @@ module _ (c : MarkedProgram) (x : Thread) (a : Attempt) (now : Phase) where
     by_onward (Throwing y class frames) k is_as keeps = by_phase (Throwing y class frames) (phases.Throw y class) is_as tt refl (keeps based k.based) refl (λ status ended. refl)
     by_onward (Entering m frames) k is_as keeps = by_phase (Entering m frames) (phases.Enter m 0) is_as tt (only_if m (Entering m frames) (inside_as (phases.Enter m 0) is_as k.inside)) (keeps based k.based) refl (λ status ended. refl)
     by_onward (Leaving m e frames) k is_as keeps = by_phase (Leaving m e frames) (phases.Leave m e) is_as tt (only_if m (Leaving m e frames) (inside_as (phases.Leave m e) is_as k.inside)) (keeps based k.based) refl (λ status ended. refl)
-    by_onward RootReturned k is_as keeps = let none = k.based in absurd (omega (arith, none))
-    by_onward (Uncaught class) k is_as keeps = let none = k.based in absurd (omega (arith, none))
+    by_onward o k is_as keeps = let none = k.based in absurd (omega (arith, none))
 
     pub going_alike : (o : Onward) → z.attempt ≡ Some (inner_as a i) → KeepsEntry a x.frames o → IsStructured c now (goes_on z o) → GoesAlike z o
     going_alike o tries keeps k =

@@ -2,16 +2,15 @@
 use Rattle.std.proofs.Common.{◌≡◌, ℕ, ◌+◌, List, Option, Some, None, refl, sym, ap, ◌∙◌, subst, arith}
 use Rattle.checked_program.specs.MarkedProgram.{MarkedProgram}
 use Rattle.machine_types.specs.{Core.{Core, event_of, event_by, outcome}, Counting.{CountsFit, extra_of}, Elision.elided, Events.{moved, wanted}, Faithful.PrintsFit, Frames.top_of}
-use Rattle.machine_types.specs.{History.{Fate, GoesOn, Fails, Finishes, Past, acts_of, fate, past_after, past_by, with_begun}, Onward.after, Threads.{Attempt, Thread}}
-use Rattle.machine_types.specs.declared.{phase.Phase.Phase, plain.Act.Act}
+use Rattle.machine_types.specs.{History.{Fate, GoesOn, Fails, Finishes, Past, acts_of, fate, past_after, past_by, with_begun}, Onward.after, Threads.{Attempt, Thread}, declared.phase.Phase.Phase}
+use Rattle.machine_types.specs.declared.{phase.Phase.TheVariants.Run, plain.Act.Act}
 use Rattle.laws_threads.specs.{EntryFrames.{StepsKeepEntry, ThrowsKeepEntry, LeavesKeepEntry}, InsideEffects.InsideMayDo, InsideMoves.ElementsInside}
 use Rattle.laws_simulation.proofs.{CalmEvents.{IsCalm, goes_if, no_extra}, OutcomePrints.{fit_of, prints_of, printed_none}}
 use Rattle.laws_refinement.{specs.ElidedSteps.{AttemptsAreCounted, AttemptsPrintNothing, FinishesAreCounted, IsNotFinished, found_of}, proofs.{DoneSections.never_runs, Inside.is_inside}}
 use Rattle.laws_refinement.proofs.InsideMoves.{Moves, moves_inside, sections_by, sections_of}
-use Rattle.machine_types.specs.declared.phase.Phase.TheVariants as phases
 
 more_begun : (n : ℕ) (phase : Phase) → with_begun n phase ≡ n + with_begun 0 phase
-more_begun n phases.Run = omega arith
+more_begun n Run = omega arith
 more_begun n phase = omega arith
 
 -- no instruction is without its step where the thread goes on in the attempt, or enters again
@@ -50,11 +49,8 @@ module _ (c : MarkedProgram) (x y : Thread) (a : Attempt) (tried : x.attempt ≡
 -- ---- the last exit
 
 at_finish : (c : MarkedProgram) (x : Thread) (a : Attempt) (got : ℕ) (phase : Phase) → fate c x a phase got ≡ Finishes → IsCalm phase × (with_begun x.counts.instructions phase ≡ x.counts.instructions)
-at_finish c x a got phases.Run e = absurd (never_runs c a (top_of c.program x.frames) got e)
-at_finish c x a got (phases.Element word stored) e = absurd (cc)
-at_finish c x a got (phases.Ending end) e = absurd (cc)
-at_finish c x a got (phases.Ended end) e = absurd (cc)
-at_finish c x a got phase e = (tt, refl)
+at_finish c x a got Run e = absurd (never_runs c a (top_of c.program x.frames) got e)
+at_finish c x a got phase e = (first_of (assumption, cc), cc)
 
 -- ---- the laws
 

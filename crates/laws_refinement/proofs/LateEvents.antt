@@ -3,7 +3,7 @@
 use Rattle.std.proofs.Common.{◌≡◌, ℕ, zero, suc, ◌+◌, ◌-◌, ◌<◌, ◌≤◌, nat_lt, Bool, true, false, List, [], ◌∷◌, drop, length, Option, Some, None, refl, sym, ap, subst, ◌∙◌, arith, IsSome, option_map, if◌then◌else◌}
 use Rattle.std.proofs.lemmas.Bool.Decides.{nat_tests}
 use Rattle.lists.proofs.ListLaws.{same_some}
-use Rattle.jvm_types.specs.{Members.is_synchronized, declared.{outcome.Thrown.{Thrown, TheVariants.ArrayIndexOutOfBoundsException}, program.Program.Program}}
+use Rattle.jvm_types.specs.{Members.is_synchronized, declared.{outcome.{End.TheVariants.Steps, Thrown.{Thrown, TheVariants.ArrayIndexOutOfBoundsException}}, program.Program.Program}}
 use Rattle.checked_program.specs.MarkedProgram.{MarkedProgram, IsMarked}
 use Rattle.machine_types.specs.{Core.is_live, Elision.{is_checked, is_same, elided, fails, if_same, looks, may_try}, Events.{element_made, wanted, moved}}
 use Rattle.machine_types.specs.{FoundWords.{WordFits, content_at, effect_content, run_content}, Frames.{Top, top_of, frames_of, top_row, frame_on, effect_at, monitor_of, returned, went, went_on}}
@@ -16,7 +16,6 @@ use Rattle.machine_types.{specs.declared.phase.{After.{After, TheVariants.{Next,
 use Rattle.laws_threads.specs.{InsideEffects.MayDo, TopFrames.IsAllowed}
 use Rattle.laws_states.{specs.RunSafety.{GoesOnBy, HasAfter, HasEvent}, proofs.HeldOrTried.tried_at}
 use Rattle.laws_refinement.{specs.TornRuns.begun_in, proofs.{Inside.{KnownInside}, InstructionsAhead.{IsTop, all_ahead, is_top, next_is_later, returned_on, top_goes_on, top_is_left}}}
-use Rattle.jvm_types.specs.declared.outcome.End.TheVariants as ends
 use Rattle.machine_types.specs.declared.phase.After.TheVariants as afters
 use Rattle.machine_types.specs.declared.phase.Phase.TheVariants as phases
 
@@ -53,23 +52,17 @@ module _ (p : Program) (a : Attempt) where
   pub goes_on_with : (n k inner : ℕ) (y : Thread) → y.attempt ≡ Some (record a { inner = inner }) → k + left_in p a.base y.phase y.frames ≤ n → Falls n k y
   goes_on_with n k inner y is h = record { few = omega (arith, h); same = λ b e. (inner, same_some (sym e ∙ is)); fewer = λ b e. h }
 
-  ran_left : (s : Thread) → left_in p a.base (runs s).phase s.frames ≤ all_ahead p a.base s.frames
-  ran_left s = elim (nat_lt s.counts.instructions s.cfg.steps) as (λ (b : Bool). left_in p a.base (if b then phases.Run else phases.Ending ends.Steps) s.frames ≤ all_ahead p a.base s.frames) [ true ↦ omega arith | false ↦ omega arith ]
-
   runs_with : (n k inner : ℕ) (s : Thread) → s.attempt ≡ Some (record a { inner = inner }) → k + all_ahead p a.base s.frames ≤ n → Falls n k (runs s)
-  runs_with n k inner s is h = goes_on_with n k inner (runs s) is (omega (arith, h, ran_left s))
-
-  root_left : (roots : List ℕ) → left_in p a.base (root_over roots) [] ≤ 0
-  root_left [] = omega arith
-  root_left (number ∷ roots) = omega arith
+  runs_with n k inner s is h =
+      let few : left_in p a.base (runs s).phase s.frames ≤ all_ahead p a.base s.frames = elim (nat_lt s.counts.instructions s.cfg.steps) as (λ (b : Bool). left_in p a.base (if b then phases.Run else phases.Ending Steps) s.frames ≤ all_ahead p a.base s.frames) [ true ↦ omega arith | false ↦ omega arith ] in
+      goes_on_with n k inner (runs s) is (omega (arith, h, few))
 
   goes : (n k inner : ℕ) (s : Thread) (o : Onward) → s.attempt ≡ Some (record a { inner = inner }) → k + left_on p a.base o ≤ n → Falls n k (goes_on s o)
   goes n k inner s (Running fs) is h = runs_with n k inner (record s { frames = fs }) is h
-  goes n k inner s (Throwing x class fs) is h = goes_on_with n k inner (goes_on s (Throwing x class fs)) is h
-  goes n k inner s (Entering m fs) is h = goes_on_with n k inner (goes_on s (Entering m fs)) is h
-  goes n k inner s (Leaving m e fs) is h = goes_on_with n k inner (goes_on s (Leaving m e fs)) is h
-  goes n k inner s RootReturned is h = goes_on_with n k inner (goes_on s RootReturned) is (omega (arith, h, root_left s.roots))
-  goes n k inner s (Uncaught class) is h = goes_on_with n k inner (goes_on s (Uncaught class)) is h
+  goes n k inner s RootReturned is h =
+      let few : left_in p a.base (root_over s.roots) [] ≤ 0 = elim s.roots as (λ (roots : List ℕ). left_in p a.base (root_over roots) [] ≤ 0) [ [] ↦ omega arith | number ∷ roots ↦ omega arith ] in
+      goes_on_with n k inner (goes_on s RootReturned) is (omega (arith, h, few))
+  goes n k inner s o is h = goes_on_with n k inner (goes_on s o) is h
 
   -- a check that fails
   check_fails : (n k : ℕ) (s : Thread) (o : Option Attempt) (got : ℕ) (more : Thread) → o ≡ Some a → is_same a got ≡ false → k ≤ n → Falls n k (if_same s o got more)
@@ -106,18 +99,11 @@ module _ (c : MarkedProgram) (marked : IsMarked c) (x : Thread) (a : Attempt) (t
         [ [] ↦ λ h. on RootReturned (omega (arith, left_behind)) | f ∷ below ↦ λ h. on (Running (f ∷ below)) h ]) (omega (arith, returned_on c marked a.base at, left_behind))
 
     -- an element is still to be read
-    comes : (word : ℕ) → Lessens whole 1 (with_phase (begun x) (phases.Element word None))
-    comes word =
-        let same : all_ahead c.program a.base (frames_of at) ≡ all_ahead c.program a.base x.frames =
-        ap (all_ahead c.program a.base) here in
-        goes_on_with c.program a whole 1 a.inner
-        (with_phase (begun x) (phases.Element word None)) tries
-        (omega (arith, left_behind, same))
-
-    indexes : (array index count : ℕ) → Lessens whole 1
-        (indexed (begun x) at array index None count)
-    indexes array index count = elim (nat_lt index count) as (λ (b : Bool). Lessens whole 1 (if b then with_phase (begun x) (phases.Element (value_word array index) None) else goes_on (begun x) (threw ArrayIndexOutOfBoundsException at)))
-        [ true ↦ comes (value_word array index) | false ↦ on (threw ArrayIndexOutOfBoundsException at) (omega (arith, left_behind)) ]
+    indexes : (array index count : ℕ) → Lessens whole 1 (indexed (begun x) at array index None count)
+    indexes array index count = elim (nat_lt index count) as (λ (b : Bool). Lessens whole 1 (if b then with_phase (begun x) (phases.Element (value_word array index) None) else goes_on (begun x) (threw ArrayIndexOutOfBoundsException at))) [
+      | true ↦ goes_on_with c.program a whole 1 a.inner (with_phase (begun x) (phases.Element (value_word array index) None)) tries (omega (arith, left_behind, ap (all_ahead c.program a.base) here))
+      | false ↦ on (threw ArrayIndexOutOfBoundsException at) (omega (arith, left_behind))
+    ]
 
     does : (e : Effect) (got : ℕ) → is_checked at.frame.pc e ≡ false → MayDo c a.monitor at e → IsAllowed c.program at e → GoesOnBy c.program at e got → Lessens whole 1 (did c.program (begun x) at e got)
     does (Goes to made) got free may allowed some =

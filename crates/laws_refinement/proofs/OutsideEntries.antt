@@ -6,14 +6,12 @@ use Rattle.checked_program.specs.MarkedProgram.{MarkedProgram}
 use Rattle.machine_types.specs.{Elision.{may_try, put_back}, Events.moved, Frames.{Top, frames_of, top_of, went_on, has_room, entry_frame, monitor_of, returned, handler_at}}
 use Rattle.machine_types.specs.{Going.{with_phase, runs, failed_turn, goes_on, goes_on_if, goes_after}, HeldMonitors.{held_at, with_held, without_held, shallower, deeper}, Instructions.printed}
 use Rattle.machine_types.specs.{LockWords.lock_of, Monitors.{takes, retakes, Tries, claim, grown}}
-use Rattle.machine_types.specs.{Onward.{Onward, Running, Throwing, Entering, Leaving, RootReturned, Uncaught, root_arguments, rooted, back, unwound, handed, after}, ReadyObjects.class_of}
-use Rattle.machine_types.specs.{Threads.{Frame, Attempt, Thread}, declared.{lock.Kept.Kept, phase.{After.After, Phase.Phase, Toward.Toward}}}
+use Rattle.machine_types.specs.{Onward.{Onward, Running, Entering, Leaving, RootReturned, Uncaught, root_arguments, rooted, back, unwound, handed, after}, ReadyObjects.class_of}
+use Rattle.machine_types.specs.{Threads.{Frame, Attempt, Thread}, declared.{lock.{Kept.Kept, LockWord.TheVariants.Free}, phase.{After.After, Phase.Phase, Toward.{Toward, TheVariants.{Leave, Wait}}}}}
 use Rattle.laws_threads.proofs.ThreadMove.{Lacks, GoesBy, LeadsTo, TurnsTo, GivesUp, Asks, WaitsFrom, Move, begun_attempt, becomes, tried_attempt, counting, any_move, runs_to, turns_to, over_to, same_onward}
 use Rattle.jvm_types.specs.declared.outcome.End.TheVariants as ends
-use Rattle.machine_types.specs.declared.lock.LockWord.TheVariants as locks
 use Rattle.machine_types.specs.declared.phase.After.TheVariants as afters
 use Rattle.machine_types.specs.declared.phase.Phase.TheVariants as phases
-use Rattle.machine_types.specs.declared.phase.Toward.TheVariants as towards
 use Rattle.laws_threads.proofs.ThreadMove as moves
 
 -- a thread is to enter a monitor
@@ -30,18 +28,13 @@ ComesNew was now = Unit {0}
 abbrev pub IsAtInstruction : Phase → Type 0
 IsAtInstruction phase = (phase ≡ phases.Run) ⊎ (phase ≡ phases.Ending ends.Steps)
 
-entry_put_back : (f : Frame) (below : List Frame) (m noted number : ℕ) → put_back (record { monitor = m; noted = noted; base = length below; number = number; inner = 0; entry = f }) (f ∷ below) ≡ f ∷ below
-entry_put_back f below m noted number =
-    let one : suc (length below) - length below ≡ 1 = omega arith in
-    rw one refl
-
 -- thread x begins the attempt a by the word that it found, and is y then
 pub record Begins (c : MarkedProgram) (x y : Thread) (got : ℕ) (a : Attempt) : Type 0 where
   pub tried : ℕ
   pub enters : x.phase ≡ phases.Enter a.monitor tried
   pub may : may_try c x tried ≡ true
   pub not_held : held_at x.held a.monitor ≡ None
-  pub is_free : lock_of got ≡ locks.Free a.noted
+  pub is_free : lock_of got ≡ Free a.noted
   pub not_last : nat_lt a.noted x.cfg.range ≡ true
   pub number : a.number ≡ tried + 1
   pub failed : y.counts.failed ≡ x.counts.failed
@@ -126,16 +119,14 @@ asks_new m _ _ (moves.looks_who r) = tt
 asks_new m _ _ (moves.clears_all r) = tt
 
 grown_new : (was : Phase) (m r : ℕ) (toward : Toward) → ComesNew was (grown m r toward)
-grown_new was m r (towards.Leave a) = tt
-grown_new was m r towards.Wait = tt
+grown_new was m r (Leave a) = tt
+grown_new was m r Wait = tt
 
 goes_new : (was : Phase) (s : Thread) (o : Onward) → MayCome was (Some o) → ComesNew was (goes_on s o).phase
 goes_new was s (Running frames) may = runs_to (ComesNew was) s tt tt
-goes_new was s (Throwing z class frames) may = tt
 goes_new was s (Entering m frames) may = (may, refl)
-goes_new was s (Leaving m a frames) may = tt
 goes_new was s RootReturned may = over_to (ComesNew was) s.roots (λ e. tt) (λ number rest e. tt)
-goes_new was s (Uncaught class) may = tt
+goes_new was s o may = tt
 
 module _ (c : MarkedProgram) (x : Thread) (got : ℕ) (none : x.attempt ≡ None) where
   abbrev Moves : Thread → Type 0
@@ -156,9 +147,6 @@ module _ (c : MarkedProgram) (x : Thread) (got : ℕ) (none : x.attempt ≡ None
   left : (was : Phase) → x.phase ≡ was → ComesNew was was → (s : Thread) (a : After) → s.attempt ≡ None → s.counts.failed ≡ x.counts.failed → s.phase ≡ x.phase → Moves (goes_after c.program s a)
   left was here k s a e f same = on_if was here s (after c.program s.frames a) e f (after_comes was c.program s.frames a) (subst (ComesNew was) (sym (same ∙ here)) k)
 
-  runs_on : (was : Phase) → x.phase ≡ was → (s : Thread) → s.attempt ≡ None → s.counts.failed ≡ x.counts.failed → Moves (runs s)
-  runs_on was here s e f = out was here (runs s) e f (runs_to (ComesNew was) s tt tt)
-
   no_claim : {P : Type 0} (m : ℕ) (t : Attempt) → claim x m ≡ Tries t → P
   no_claim m t e = let bad : Some t ≡ None = sym (tried_attempt m (held_at x.held m) x.attempt t e) ∙ none in absurd (cc)
 
@@ -172,7 +160,8 @@ module _ (c : MarkedProgram) (x : Thread) (got : ℕ) (none : x.attempt ≡ None
   move_enters n _ (moves.prints at i f l t) e = on phases.Run e (printed (counting n x) got i) (Running (went_on c.program at 0)) none refl tt
   move_enters n _ (moves.asks_to_wait at m h now f l t k) e = out phases.Run e (becomes c (counting n x) got phases.Run (moves.asks_to_wait at m h now f l t k)) none refl (waits_new m h.kept now k)
   move_enters n _ (moves.asks at m h now f y l k) e = out phases.Run e (becomes c (counting n x) got phases.Run (moves.asks at m h now f y l k)) none refl (asks_new m h.kept now k)
-  move_enters n _ (moves.enters_again m tried h l) e = runs_on (phases.Enter m tried) e (record (counting n x) { held = with_held (deeper h) x.held }) none refl
+  move_enters n _ (moves.enters_again m tried h l) e =
+      let s : Thread = record (counting n x) { held = with_held (deeper h) x.held } in out (phases.Enter m tried) e (runs s) none refl (runs_to (ComesNew (phases.Enter m tried)) s tt tt)
   move_enters n _ (moves.enters_inside m tried t k) e = no_claim m t k
   move_enters n _ (moves.begins_to_try m tried noted f below l may free last unheld) e = record {
     tried = tried;
@@ -183,7 +172,7 @@ module _ (c : MarkedProgram) (x : Thread) (got : ℕ) (none : x.attempt ≡ None
     not_last = last;
     number = refl;
     failed = refl;
-    frames = subst (λ (gs : List Frame). put_back (begun_attempt m noted tried f below) gs ≡ gs) (sym l) (entry_put_back f below m noted (tried + 1));
+    frames = subst (λ (gs : List Frame). put_back (begun_attempt m noted tried f below) gs ≡ gs) (sym l) (let one : suc (length below) - length below ≡ 1 = omega arith in rw one refl);
     inner = refl;
     phase = runs_to IsAtInstruction (counting n x) (inl refl) (inr refl);
   }

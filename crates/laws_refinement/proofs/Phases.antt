@@ -4,15 +4,15 @@ use Rattle.std.proofs.lemmas.Bool.Decides.{nat_tests}
 use Rattle.lists.proofs.{ListLaws.same_some, TestLaws.same_number}
 use Rattle.jvm_types.specs.declared.{class_numbers.TheConstants.INT_ARRAY_CLASS, outcome.{End.End, Thrown.{Thrown, TheVariants.ArrayIndexOutOfBoundsException}}}
 use Rattle.checked_program.specs.MarkedProgram.{MarkedProgram, IsMarked}
-use Rattle.machine_types.specs.{Accesses.{found_by}, Construction.{PhaseKeepsFrames}, Effects.read_by, Elision.{is_same, fails, elided, may_try}, Events.{wanted, moved}}
+use Rattle.machine_types.specs.{Accesses.found_by, Construction.PhaseKeepsFrames, Effects.read_by, Elision.{is_same, fails, elided, may_try}, Events.{wanted, moved}}
 use Rattle.machine_types.specs.{Frames.{Top, top_of, handler_at, returned, went_on}, Going.{goes_on, goes_on_if, goes_after, runs, with_phase}}
-use Rattle.machine_types.specs.History.{Fate, GoesOn, Finishes, fate, fate_by, leave_fate, acts_of, enter_acts, leave_acts, act_if, with_begun}
+use Rattle.machine_types.specs.{History.{Fate, GoesOn, Finishes, fate, fate_by, leave_fate, acts_of, enter_acts, leave_acts, act_if, with_begun}, Ints.low}
 use Rattle.machine_types.specs.Monitors.{Claim, Tries, claim, enter_wants, enter_moves, finish_wants, leave_wants, leave_moves, finishes}
-use Rattle.machine_types.specs.{Ints.low, Onward.{Onward, Running, threw, handed, back, unwound, dispatched, after}, PlainInstructions.got_by, ReadyObjects.class_of}
+use Rattle.machine_types.specs.{Onward.{Onward, Running, threw, handed, back, unwound, dispatched, after}, PlainInstructions.got_by, ReadyObjects.class_of}
 use Rattle.machine_types.specs.Replay.{Alone, only_on, reads_only, goes, instructs, enters, leaves, replay_act, begun_and_done, status_inside, at_present}
-use Rattle.machine_types.specs.Structure.{IsAs, IsLimitAt, CountsTurns, DrawsToWait, IsStructured, AttemptStands, AfterShows, PhaseShows}
-use Rattle.machine_types.specs.{Threads.{Frame, Thread}, Typed.{PhaseHolds, HasClass}, Words.{header_word, value_word}, declared.{phase.After.After}}
-use Rattle.machine_types.specs.declared.{effect.{Effect.{Effect, TheVariants.{Reads, Indexes}}, Variable.TheVariants.Static}, phase.Phase.Phase, plain.Act.Act}
+use Rattle.machine_types.specs.{Structure.{IsAs, IsLimitAt, CountsTurns, DrawsToWait, IsStructured, AttemptStands, AfterShows, PhaseShows}, Threads.{Frame, Thread}, Typed.{PhaseHolds, HasClass}}
+use Rattle.machine_types.specs.{Words.{header_word, value_word}, declared.{effect.{Effect.{Effect, TheVariants.{Reads, Indexes}}, Variable.TheVariants.Static}, phase.After.After}}
+use Rattle.machine_types.specs.declared.{phase.{After.TheVariants.{Next, Return, Unwind}, Phase.Phase}, plain.Act.{Act, TheVariants.{Do, Enter, Exit}}}
 use Rattle.laws_threads.{specs.{InsideEffects.TakesOwned, InsideMoves.{TopStands}, TopFrames.EffectsAreAllowed}, proofs.{EntryKept.{steps_kept, throws_kept, leaves_kept}, Landing.stand_top, Standings.top_here}}
 use Rattle.laws_states.{specs.{FoundLaws.HeapWordsFit}, proofs.PlainMoves.goes_attempt}
 use Rattle.laws_simulation.proofs.{ElementEvents.{Element, element_in, has_element}}
@@ -21,9 +21,7 @@ use Rattle.laws_refinement.proofs.{Checks.checked, Inside.{AtElement, KnownInsid
 use Rattle.laws_refinement.proofs.{GoingOn.{Grows, GoesAlike, IsElementRead, Knows, all_done, inner_as, none_begun, plain_as, comes_there, going_alike, grown}, Instructions.{ByFate, runs_by_fate}, StayPlaces.{element_stays, header_stays, top_array}}
 use Rattle.jvm_types.specs.declared.outcome.End.TheVariants as ends
 use Rattle.machine_types.specs.PlainState as plain
-use Rattle.machine_types.specs.declared.phase.After.TheVariants as afters
 use Rattle.machine_types.specs.declared.phase.Phase.TheVariants as phases
-use Rattle.machine_types.specs.declared.plain.Act.TheVariants as acts
 
 -- ---- the top frame is there
 
@@ -33,47 +31,32 @@ top_there c (f ∷ fs) marked k = (top_here c f fs k, stand_top c marked f fs k)
 
 -- so a thread that has left a monitor goes on
 after_there : (c : MarkedProgram) (m : ℕ) (e : After) (fs : List Frame) → IsMarked c → AfterShows c m e fs → (o : Onward) × (after c.program fs e ≡ Some o)
-after_there c m afters.Next fs marked k = (Running fs, refl)
-after_there c m (afters.Unwind y class) fs marked k = (unwound y class (drop 1 fs), refl)
-after_there c m afters.Return [] marked k = absurd k
-after_there c m afters.Return (f ∷ fs) marked k =
+after_there c m Next fs marked k = (Running fs, refl)
+after_there c m (Unwind y class) fs marked k = (unwound y class (drop 1 fs), refl)
+after_there c m Return [] marked k = absurd k
+after_there c m Return (f ∷ fs) marked k =
     let top = top_there c (f ∷ fs) marked k.0 in
     (back (returned c.program top.0), ap (option_map (λ at. back (returned c.program at))) top.1)
 
--- ---- a limit leaves a thread where it was
+-- ---- a limit leaves a thread where it was, and no element to be read
 
-turn_runs : (phase : Phase) → CountsTurns phase → status_inside phase ≡ plain.Run
-turn_runs (phases.Acquire m) k = refl
-turn_runs phase k = first_of (cc, grind arith)
+abbrev IsCalm : Phase → Type 0
+IsCalm phase = (status_inside phase ≡ plain.Run) × IsElementRead phase
 
-draw_runs : (phase : Phase) → DrawsToWait phase → status_inside phase ≡ plain.Run
-draw_runs (phases.Grow m toward) k = refl
-draw_runs phase k = absurd k
+turn_calm : (phase : Phase) → CountsTurns phase → IsCalm phase
+turn_calm (phases.Acquire m) k = (refl, tt)
+turn_calm phase k = (first_of (cc, grind arith), assumption)
 
-limit_runs : (e : End) (phase was : Phase) → status_inside phase ≡ plain.Run → IsLimitAt e phase was → status_inside was ≡ plain.Run
-limit_runs ends.Turns phase was r k = turn_runs was k
-limit_runs ends.Records phase was r k = draw_runs was k
-limit_runs ends.Steps phase was r k = ap status_inside k
-limit_runs ends.Prints phase was r k = ap status_inside k
-limit_runs e phase was r k = ap status_inside k ∙ r
+draw_calm : (phase : Phase) → DrawsToWait phase → IsCalm phase
+draw_calm (phases.Grow m toward) k = (refl, tt)
+draw_calm phase k = absurd k
 
--- nor does it leave an element to be read
-
-turn_read : (phase : Phase) → CountsTurns phase → IsElementRead phase
-turn_read (phases.Element word stored) k = absurd k
-turn_read phase k = tt
-
-draw_read : (phase : Phase) → DrawsToWait phase → IsElementRead phase
-draw_read (phases.Element word stored) k = absurd k
-draw_read phase k = tt
-
-limit_read : (e : End) (phase was : Phase) → IsElementRead phase → IsLimitAt e phase was
-    → IsElementRead was
-limit_read ends.Steps phase was r k = subst IsElementRead (sym k) tt
-limit_read ends.Prints phase was r k = subst IsElementRead (sym k) tt
-limit_read ends.Turns phase was r k = turn_read was k
-limit_read ends.Records phase was r k = draw_read was k
-limit_read e phase was r k = subst IsElementRead (sym k) r
+limit_calm : (e : End) (phase was : Phase) → IsCalm phase → IsLimitAt e phase was → IsCalm was
+limit_calm ends.Turns phase was r k = turn_calm was k
+limit_calm ends.Records phase was r k = draw_calm was k
+limit_calm ends.Steps phase was r k = subst IsCalm (sym k) (refl, tt)
+limit_calm ends.Prints phase was r k = subst IsCalm (sym k) (refl, tt)
+limit_calm e phase was r k = subst IsCalm (sym k) r
 
 -- ---- of a thread in an attempt
 
@@ -118,21 +101,18 @@ module _ (fit : HeapWordsFit) (allowed : EffectsAreAllowed) (trying : Trying) (n
     dispatches : dispatched c.program y class x.frames ≡ Some its_onward
     dispatches = ap (option_map (λ at. handed c.program y class at (handler_at (class_of class) at))) its_top.1
 
-    throw_grows : IsStructured c now (goes_on_if x (dispatched c.program y class x.frames)) → Grown (phases.Throw y class) (goes_on_if x (dispatched c.program y class x.frames)) (acts.Do ∷ [])
+    throw_grows : IsStructured c now (goes_on_if x (dispatched c.program y class x.frames)) → Grown (phases.Throw y class) (goes_on_if x (dispatched c.program y class x.frames)) (Do ∷ [])
     throw_grows k =
         let alike : GoesAlike c x a now x its_onward =
         going_alike c x a now x a.inner refl attempt_stands.based its_onward tries (throws_kept c.program x.frames a y class its_onward dispatches) (subst (λ (o : Option Onward). IsStructured c now (goes_on_if x o)) dispatches k) in
-        let acted : (memory : ℕ → Option ℕ) (n : ℕ) (ended : List End) → replay_act c.program a.monitor memory (present (phases.Throw y class) n ended) acts.Do (plain.Throw y class) ≡ Some (at_present (goes_on x its_onward) a now n ended) =
+        let acted : (memory : ℕ → Option ℕ) (n : ℕ) (ended : List End) → replay_act c.program a.monitor memory (present (phases.Throw y class) n ended) Do (plain.Throw y class) ≡ Some (at_present (goes_on x its_onward) a now n ended) =
         λ memory n ended.
         ap (λ (o : Option Onward). goes (present (phases.Throw y class) n ended) (option_and_then (only_on a.monitor) o)) dispatches
         ∙ ap (goes (present (phases.Throw y class) n ended)) alike.only
         ∙ comes_there c x a now x its_onward a.inner alike (plain.Throw y class) ended n in
-        let its_grown : Grown (phases.Throw y class) (goes_on x its_onward) (acts.Do ∷ []) =
-        grown c x a now x its_onward a.inner alike Keeps s.words (was t) (phases.Throw y class) acts.Do counted tries (λ memory knows n some ended. acted memory n ended) in
-        subst (λ (o : Option Onward). Grown (phases.Throw y class) (goes_on_if x o) (acts.Do ∷ [])) (sym dispatches) its_grown
-
-    throws_inside : EventInside (phases.Throw y class)
-    throws_inside = checked (λ z f. IsStructured c now z → By (phases.Throw y class) f z (acts.Do ∷ [])) a x (goes_on_if x (dispatched c.program y class x.frames)) (found_in (phases.Throw y class)) x.attempt tries throw_grows (λ k. refl)
+        let its_grown : Grown (phases.Throw y class) (goes_on x its_onward) (Do ∷ []) =
+        grown c x a now x its_onward a.inner alike Keeps s.words (was t) (phases.Throw y class) Do counted tries (λ memory knows n some ended. acted memory n ended) in
+        subst (λ (o : Option Onward). Grown (phases.Throw y class) (goes_on_if x o) (Do ∷ [])) (sym dispatches) its_grown
 
   -- ---- an entry of its monitor
 
@@ -140,29 +120,23 @@ module _ (fit : HeapWordsFit) (allowed : EffectsAreAllowed) (trying : Trying) (n
     abbrev deeper : Thread
     deeper = runs (record x { attempt = Some (record a { inner = a.inner + 1 }) })
 
-    enter_grows : IsStructured c now deeper → Grown (phases.Enter m tried) deeper (acts.Enter ∷ [])
+    enter_grows : IsStructured c now deeper → Grown (phases.Enter m tried) deeper (Enter ∷ [])
     enter_grows k =
         let z : Thread = record x { attempt = Some (inner_as a (a.inner + 1)) } in
         let alike : GoesAlike c x a now z (Running x.frames) = going_alike c x a now z (a.inner + 1) refl attempt_stands.based (Running x.frames) refl (λ before behind. refl) k in
-        let acted : (memory : ℕ → Option ℕ) (n : ℕ) (ended : List End) → replay_act c.program a.monitor memory (present (phases.Enter m tried) n ended) acts.Enter (plain.Enter m) ≡ Some (at_present deeper (inner_as a (a.inner + 1)) now n ended) =
+        let acted : (memory : ℕ → Option ℕ) (n : ℕ) (ended : List End) → replay_act c.program a.monitor memory (present (phases.Enter m tried) n ended) Enter (plain.Enter m) ≡ Some (at_present deeper (inner_as a (a.inner + 1)) now n ended) =
         λ memory n ended.
         let depth : suc a.inner + 1 ≡ suc (a.inner + 1) = omega arith in
         ap (λ (b : Bool). cond b (Some (enters (present (phases.Enter m tried) n ended))) None) (same_number m a.monitor (inside_as trying (phases.Enter m tried) counted))
         ∙ ap (λ (d : ℕ). goes (record { thread = plain_as x (plain.Enter m) ended; depth = d; begun = n }) (Some (Running x.frames))) depth
         ∙ comes_there c x a now z (Running x.frames) (a.inner + 1) alike (plain.Enter m) ended n in
-        grown c x a now z (Running x.frames) (a.inner + 1) alike Keeps s.words (was t) (phases.Enter m tried) acts.Enter counted refl (λ memory knows n some ended. acted memory n ended)
+        grown c x a now z (Running x.frames) (a.inner + 1) alike Keeps s.words (was t) (phases.Enter m tried) Enter counted refl (λ memory knows n some ended. acted memory n ended)
 
     abbrev EnterBy : Claim → Type 0
     EnterBy q = IsStructured c now (enter_moves x m tried (may_try c x tried) q (found_by s.words (enter_wants m q)))
         → By (phases.Enter m tried) GoesOn (enter_moves x m tried (may_try c x tried) q (found_by s.words (enter_wants m q))) (enter_acts q)
 
-    enters_inside : EventInside (phases.Enter m tried)
-    enters_inside = subst EnterBy (sym claims) enter_grows
-
   -- ---- an exit
-
-  is_more : (n : ℕ) → nat_lt 0 (suc n) ≡ true
-  is_more n = grind (arith, nat_tests)
 
   module _ (m : ℕ) (e : After) (counted : was t ≡ phases.Leave m e) (claims : claim x m ≡ Tries a) where
     abbrev goes_there : (o : Onward) × (after c.program x.frames e ≡ Some o)
@@ -172,38 +146,36 @@ module _ (fit : HeapWordsFit) (allowed : EffectsAreAllowed) (trying : Trying) (n
       abbrev shallower : Thread
       shallower = record x { attempt = Some (record a { inner = n }) }
 
-      leave_grows : IsStructured c now (goes_after c.program shallower e) → Grown (phases.Leave m e) (goes_after c.program shallower e) (acts.Exit ∷ [])
+      leave_grows : IsStructured c now (goes_after c.program shallower e) → Grown (phases.Leave m e) (goes_after c.program shallower e) (Exit ∷ [])
       leave_grows k =
           let alike : GoesAlike c x a now shallower goes_there.0 =
           going_alike c x a now shallower n refl attempt_stands.based goes_there.0 refl (leaves_kept c.program x.frames a e goes_there.0 goes_there.1) (subst (λ (o : Option Onward). IsStructured c now (goes_on_if shallower o)) goes_there.1 k) in
-          let acted : (memory : ℕ → Option ℕ) (begun : ℕ) (ended : List End) → replay_act c.program a.monitor memory (present (phases.Leave m e) begun ended) acts.Exit (plain.Leave m e) ≡ Some (at_present (goes_on shallower goes_there.0) (inner_as a n) now begun ended) =
+          let acted : (memory : ℕ → Option ℕ) (begun : ℕ) (ended : List End) → replay_act c.program a.monitor memory (present (phases.Leave m e) begun ended) Exit (plain.Leave m e) ≡ Some (at_present (goes_on shallower goes_there.0) (inner_as a n) now begun ended) =
           λ memory begun ended.
           let z : Alone = present (phases.Leave m e) begun ended in
           ap (λ (b : Bool). cond b (leaves c.program z e (suc a.inner)) None) (same_number m a.monitor (inside_as trying (phases.Leave m e) counted))
           ∙ ap (λ (depth : ℕ). leaves c.program z e (suc depth)) inner
           ∙ ap (goes (record z { depth = suc n })) goes_there.1
           ∙ comes_there c x a now shallower goes_there.0 n alike (plain.Leave m e) ended begun in
-          let its_grown : Grown (phases.Leave m e) (goes_on shallower goes_there.0) (acts.Exit ∷ []) =
-          grown c x a now shallower goes_there.0 n alike Keeps s.words (was t) (phases.Leave m e) acts.Exit counted refl (λ memory knows begun some ended. acted memory begun ended) in
-          subst (λ (o : Option Onward). Grown (phases.Leave m e) (goes_on_if shallower o) (acts.Exit ∷ [])) (sym goes_there.1) its_grown
+          let its_grown : Grown (phases.Leave m e) (goes_on shallower goes_there.0) (Exit ∷ []) =
+          grown c x a now shallower goes_there.0 n alike Keeps s.words (was t) (phases.Leave m e) Exit counted refl (λ memory knows begun some ended. acted memory begun ended) in
+          subst (λ (o : Option Onward). Grown (phases.Leave m e) (goes_on_if shallower o) (Exit ∷ [])) (sym goes_there.1) its_grown
 
     abbrev InnerBy : ℕ → Type 0
     InnerBy i = IsStructured c now (finishes c.program x e a i (found_by s.words (finish_wants m i)))
-        → By (phases.Leave m e) (cond (nat_lt 0 i) GoesOn (fate_by (is_same a (found_by s.words (finish_wants m i))) Finishes)) (finishes c.program x e a i (found_by s.words (finish_wants m i))) (act_if (nat_lt 0 i) acts.Exit)
+        → By (phases.Leave m e) (cond (nat_lt 0 i) GoesOn (fate_by (is_same a (found_by s.words (finish_wants m i))) Finishes)) (finishes c.program x e a i (found_by s.words (finish_wants m i))) (act_if (nat_lt 0 i) Exit)
 
     by_inner : (i : ℕ) → a.inner ≡ i → InnerBy i
     by_inner zero f k = elim (is_same a (found_by s.words (finish_wants m zero))) as (λ (b : Bool). By (phases.Leave m e) (fate_by b Finishes) (cond b (goes_after c.program (elided x) e) (fails x a)) [])
         [ true ↦ goes_attempt (elided x) (after c.program x.frames e) | false ↦ refl ]
     by_inner (suc n) f k =
-        subst (λ (b : Bool). By (phases.Leave m e) (cond b GoesOn (fate_by (is_same a (found_by s.words (finish_wants m (suc n)))) Finishes)) (goes_after c.program (record x { attempt = Some (record a { inner = n }) }) e) (act_if b acts.Exit)) (sym (is_more n))
+        let more : nat_lt 0 (suc n) ≡ true = grind (arith, nat_tests) in
+        subst (λ (b : Bool). By (phases.Leave m e) (cond b GoesOn (fate_by (is_same a (found_by s.words (finish_wants m (suc n)))) Finishes)) (goes_after c.program (record x { attempt = Some (record a { inner = n }) }) e) (act_if b Exit)) (sym more)
         (leave_grows n f k)
 
     abbrev LeaveBy : Claim → Type 0
     LeaveBy q = IsStructured c now (leave_moves c.program x m e q (found_by s.words (leave_wants x m q)))
         → By (phases.Leave m e) (leave_fate q (found_by s.words (leave_wants x m q))) (leave_moves c.program x m e q (found_by s.words (leave_wants x m q))) (leave_acts x q (found_by s.words (leave_wants x m q)))
-
-    leaves_inside : EventInside (phases.Leave m e)
-    leaves_inside = subst LeaveBy (sym claims) (by_inner a.inner refl)
 
   -- ---- an element, of an array that the monitor's object owns
 
@@ -245,7 +217,7 @@ module _ (fit : HeapWordsFit) (allowed : EffectsAreAllowed) (trying : Trying) (n
         (option_map (λ at. Running (went_on c.program at (slice_index s.words word))) o)) k.found
 
     read_grows : IsStructured c now (goes_on x read_on)
-        → Grown (phases.Element word None) (goes_on x read_on) (acts.Do ∷ [])
+        → Grown (phases.Element word None) (goes_on x read_on) (Do ∷ [])
     read_grows stands_so =
         let alike : GoesAlike c x a now x read_on =
         going_alike c x a now x a.inner refl attempt_stands.based read_on tries
@@ -260,7 +232,7 @@ module _ (fit : HeapWordsFit) (allowed : EffectsAreAllowed) (trying : Trying) (n
         ∙ ap (λ (n : ℕ). option_map (λ v. Running (went_on c.program k.at v)) (memory n))
         (sym k.word_is)
         ∙ ap (option_map (λ v. Running (went_on c.program k.at v))) (knows word element_there) in
-        let acted : (memory : ℕ → Option ℕ) → Knows Keeps s.words memory → (n : ℕ) → 0 < n → (ended : List End) → replay_act c.program a.monitor memory (present (phases.Element word None) n ended) acts.Do plain.Run ≡ Some (at_present (goes_on x read_on) a now n ended) =
+        let acted : (memory : ℕ → Option ℕ) → Knows Keeps s.words memory → (n : ℕ) → 0 < n → (ended : List End) → replay_act c.program a.monitor memory (present (phases.Element word None) n ended) Do plain.Run ≡ Some (at_present (goes_on x read_on) a now n ended) =
         λ memory knows n some ended.
         let z : Alone = present (phases.Element word None) n ended in
         let more : Alone = record z { begun = n - 1 + 1 } in
@@ -277,10 +249,10 @@ module _ (fit : HeapWordsFit) (allowed : EffectsAreAllowed) (trying : Trying) (n
         ∙ ap (goes more) alike.only
         ∙ ap (λ (k : ℕ). goes (record z { begun = k }) (Some read_on)) (omega (arith, some))
         ∙ comes_there c x a now x read_on a.inner alike plain.Run ended n in
-        grown c x a now x read_on a.inner alike Keeps s.words (was t) (phases.Element word None) acts.Do counted tries acted
+        grown c x a now x read_on a.inner alike Keeps s.words (was t) (phases.Element word None) Do counted tries acted
 
     read_inside : EventInside (phases.Element word None)
-    read_inside stands_so = subst (λ (y : Thread). Grown (phases.Element word None) y (acts.Do ∷ []))
+    read_inside stands_so = subst (λ (y : Thread). Grown (phases.Element word None) y (Do ∷ []))
         (sym moves) (read_grows (subst (IsStructured c now) moves stands_so))
 
   element_inside : (word : ℕ) (stored : Option ℕ) → x.phase ≡ phases.Element word stored
@@ -290,30 +262,31 @@ module _ (fit : HeapWordsFit) (allowed : EffectsAreAllowed) (trying : Trying) (n
 
   -- ---- a limit
 
-  limited : (e : End) (phase later : Phase) → status_inside phase ≡ plain.Run → IsElementRead phase → ((n : ℕ) → n ≡ with_begun n phase) → IsLimitAt e phase (was t) → IsAs (phases.Ended e) now → Grown phase (with_phase x later) []
-  limited e phase later run element same k is_as = record {
+  limited : (e : End) (phase later : Phase) → IsCalm phase → ((n : ℕ) → n ≡ with_begun n phase) → IsLimitAt e phase (was t) → IsAs (phases.Ended e) now → Grown phase (with_phase x later) []
+  limited e phase later calm same k is_as = record {
     inner = a.inner;
     attempt = tries;
     entry = λ ended. refl;
     begun = λ n. none_begun now (with_begun n phase) read;
     replays = λ memory knows n some ended.
-        let status : status_inside (was t) ≡ status_inside now = limit_runs e phase (was t) run k ∙ sym (limit_runs e (phases.Ended e) now refl is_as) in
-        let count : begun_and_done (was t) n ≡ begun_and_done now (with_begun n phase) = all_done (was t) n (limit_read e phase (was t) element k) ∙ same n ∙ sym (all_done now (with_begun n phase) read) in
+        let status : status_inside (was t) ≡ status_inside now = (limit_calm e phase (was t) calm k).0 ∙ sym (limit_calm e (phases.Ended e) now (refl, tt) is_as).0 in
+        let count : begun_and_done (was t) n ≡ begun_and_done now (with_begun n phase) = all_done (was t) n (limit_calm e phase (was t) calm k).1 ∙ same n ∙ sym (all_done now (with_begun n phase) read) in
         (λ i. Some (let next : Alone = record { thread = plain_as x (status i) ended; depth = suc a.inner; begun = count i } in next));
   }
     where
       read : IsElementRead now
-      read = limit_read e (phases.Ended e) now tt is_as
+      read = (limit_calm e (phases.Ended e) now (refl, tt) is_as).1
 
   -- ---- all phases
 
   by_phase : (phase : Phase) → x.phase ≡ phase → IsAs phase (was t) → KnownInside c x a phase → EventInside phase
   by_phase phases.Run e k known = runs_by_fate fit allowed trying e known.at known.found now
-  by_phase (phases.Throw y class) e k known = throws_inside y class k
-  by_phase (phases.Enter m tried) e k known = enters_inside m tried k known
-  by_phase (phases.Leave m after) e k known = leaves_inside m after k known
-  by_phase (phases.Ending reason) e k known = λ l. limited reason (phases.Ending reason) (phases.Ended reason) refl tt (λ n. refl) k l.is_as
-  by_phase (phases.Ended reason) e k known = λ l. limited reason (phases.Ended reason) x.phase refl tt (λ n. refl) k (subst (λ (phase : Phase). IsAs phase now) e l.is_as)
+  by_phase (phases.Throw y class) e k known = checked (λ z f. IsStructured c now z → By (phases.Throw y class) f z (Do ∷ [])) a x (goes_on_if x (dispatched c.program y class x.frames)) (found_in (phases.Throw y class)) x.attempt tries
+      (throw_grows y class k) (λ l. refl)
+  by_phase (phases.Enter m tried) e k known = subst (EnterBy m tried k known) (sym known) (enter_grows m tried k known)
+  by_phase (phases.Leave m after) e k known = subst (LeaveBy m after k known) (sym known) (by_inner m after k known a.inner refl)
+  by_phase (phases.Ending reason) e k known = λ l. limited reason (phases.Ending reason) (phases.Ended reason) (refl, tt) (λ n. refl) k l.is_as
+  by_phase (phases.Ended reason) e k known = λ l. limited reason (phases.Ended reason) x.phase (refl, tt) (λ n. refl) k (subst (λ (phase : Phase). IsAs phase now) e l.is_as)
   by_phase (phases.Element word stored) e k known = element_inside word stored e k known
   by_phase phase e k known = absurd known
 

@@ -6,9 +6,8 @@ use Rattle.lists.proofs.ListLaws.{same_some}
 use Rattle.jvm_types.specs.declared.program.Program.{Program}
 use Rattle.checked_program.specs.{MarkedProgram.{MarkedProgram, IsMarked}, SectionLaws.ApartLaw}
 use Rattle.machine_types.specs.{Accesses.found_by, Core.{Core, Happening, Of, NextPart, core, event_of, happened, how_ended, may_begin, next_threads, part_begins, part_phase, with_roots}}
-use Rattle.machine_types.specs.{Elision.is_same, Events.{wanted, moved}, LockWords.word_of_lock, Parts.{run_roots, done_roots}, Settings.AreSettings}
-use Rattle.machine_types.specs.{Structure.{AttemptStandsIn}, Threads.{Attempt, Frame, Thread}, declared.{access.Access.TheVariants.Load, config.Config.Config}}
-use Rattle.machine_types.{specs.declared.phase.Phase.Phase, proofs.Lists.{got_when_set, got_other}}
+use Rattle.machine_types.specs.{Elision.is_same, Events.{wanted, moved}, LockWords.word_of_lock, Parts.{run_roots, done_roots}, Settings.AreSettings, Structure.AttemptStandsIn}
+use Rattle.machine_types.{specs.{Threads.{Attempt, Frame, Thread}, declared.{access.Access.TheVariants.Load, config.Config.Config, phase.Phase.Phase}}, proofs.Lists.{got_when_set, got_other}}
 use Rattle.laws_threads.specs.{InsideEffects.InsideMayDo, InsideMoves.ElementsInside}
 use Rattle.laws_states.{specs.{RunFacts.HaveWidth, RunSafety.{IsSafe, RunsAreSafe}}, proofs.GrowingRuns.one_more}
 use Rattle.laws_refinement.{specs.TornRuns.{attempt_in, begun_in, begun_of, begun_by, begun_inside, if_open, IsTorn, NotedNeverReturns, TornRunsAreShort}, proofs.Inside.{Inside, is_inside}}
@@ -148,12 +147,8 @@ fewer_below p base [] = omega arith
 fewer_below p base (f ∷ fs) = omega arith
 
 all_within : (p : Program) (base : ℕ) (phase : Phase) (fs : List Frame) (n : ℕ) → all_ahead p base fs ≤ n → left_in p base phase fs ≤ n
-all_within p base phases.Run fs n h = h
-all_within p base (phases.Element word stored) fs n h = omega (arith, h)
-all_within p base (phases.Enter m tried) fs n h = h
-all_within p base (phases.Leave m afters.Next) fs n h = h
 all_within p base (phases.Leave m afters.Return) fs n h = omega (arith, h, fewer_below p base fs)
-all_within p base phase fs n h = omega arith
+all_within p base phase fs n h = omega (arith, h)
 
 pub torn_runs_are_short : InsideMayDo → ElementsInside → RunsAreSafe → ApartLaw → NotedNeverReturns → TornRunsAreShort
 torn_runs_are_short may_do elements safe apart never c cfg hs more t n a k torn reach =

@@ -63,30 +63,18 @@ none_passes test from (suc n) i e h = by_test (test from) refl e (λ k rest room
 none_live : (s : Core) → live_from s 1 ≡ None → NoWorkerLives s
 none_live s e u = elim (cases_Bool (nat_lt u (length s.threads))) [
   | inl h ↦
+      let one : nat_le 1 (suc u) ≡ true = grind (arith, nat_tests) in
+      let next : 1 + u ≡ suc u = omega arith in
       ap (λ (b : Bool). b && lives s (suc u)) (sym one)
       ∙ ap (λ (t : ℕ). nat_le 1 t && lives s t) (sym next)
       ∙ none_passes (λ t. nat_le 1 t && lives s t) 1 (length s.threads) u e (grind (arith, nat_tests, h))
   | inr h ↦ ap is_live_thread (slice_get_past s.threads (suc u) (grind (arith, nat_tests, h)))
 ]
-  where
-    one : nat_le 1 (suc u) ≡ true
-    one = grind (arith, nat_tests)
-
-    next : 1 + u ≡ suc u
-    next = omega arith
-
-second_none : (a b : Option ℕ) → option_or a b ≡ None → b ≡ None
-second_none None b e = e
-second_none (Some x) b e = absurd (cc)
 
 -- ---- where no part may begin
 
-all_dead : (s : Core) → lives s 0 ≡ false → NoWorkerLives s → (t : ℕ) → lives s t ≡ false
-all_dead s first workers zero = first
-all_dead s first workers (suc u) = workers u
-
 over : (s : Core) → lives s 0 ≡ false → NoWorkerLives s → may_begin s.threads ≡ false → IsOver s
-over s first workers last = record { dead = all_dead s first workers; last = last }
+over s first workers last = record { dead = λ t. elim t as (λ (n : ℕ). lives s n ≡ false) [ zero ↦ first | suc u ↦ workers u ]; last = last }
 
 -- behind `done` comes no part
 none_after : (xs : List Thread) → ((x : Thread) → slice_get xs 0 ≡ Some x → 2 ≤ x.part) → may_begin xs ≡ false
@@ -101,17 +89,10 @@ none_after (x ∷ workers) part = by_part x.part (part x refl)
 -- ---- the turns of each stage
 
 module _ (given : GivenIsKept) (c : MarkedProgram) (s : Core) where
-  init_turn : (order : List ℕ) → IsAlone (λ n. n ≡ 0) s → TurnFits c s (turn_at (First order) s)
-  init_turn order h = (elim (lives s 0) as (λ (b : Bool). lives s 0 ≡ b → TurnFits c s (if b then turn_of (Of 0) (First order) else part_turn s (Ordered order))) [
-    | true ↦ λ live. event_alone given (λ n. n ≡ 0) c s 0 h
-    | false ↦ λ dead. (elim (may_begin s.threads) as (λ (b : Bool). lives s 0 ≡ false → may_begin s.threads ≡ b → TurnFits c s (if b then turn_of NextPart (Ordered order) else None))
-        [ true ↦ λ dead may. workers_begin c s h dead may | false ↦ λ dead may. over s dead h.workers may ]) dead refl
-  ]) refl
-
   round_fits : (from : ℕ) → IsWaiting s → TurnFits c s (round_turn_from s from)
   round_fits from h = (elim (option_or (live_from s from) (live_from s 1)) as (λ (o : Option ℕ). option_or (live_from s from) (live_from s 1) ≡ o → TurnFits c s (round_turn s o)) [
     | None ↦ λ e. (elim (may_begin s.threads) as (λ (b : Bool). NoWorkerLives s → may_begin s.threads ≡ b → TurnFits c s (if b then turn_of NextPart Last else None))
-        [ true ↦ λ dead may. done_begins c s h dead may | false ↦ λ dead may. over s h.first dead may ]) (none_live s (second_none (live_from s from) (live_from s 1) e)) refl
+        [ true ↦ λ dead may. done_begins c s h dead may | false ↦ λ dead may. over s h.first dead may ]) (none_live s ((elim (live_from s from) as (λ (o : Option ℕ). option_or o (live_from s 1) ≡ None → live_from s 1 ≡ None) [ None ↦ λ e. e | Some u ↦ λ e. absurd (cc) ]) e)) refl
     | Some t ↦ λ e. event_waits given c s t h
   ]) refl
 
@@ -122,7 +103,11 @@ module _ (given : GivenIsKept) (c : MarkedProgram) (s : Core) where
       [ true ↦ λ rest. event_waits given c s t h | false ↦ λ rest. rest ]) (ordered_fits order h)
 
   pub turn_fits : (stage : Stage) → StageFits stage s → TurnFits c s (turn_at stage s)
-  turn_fits (First order) h = init_turn order h
+  turn_fits (First order) h = (elim (lives s 0) as (λ (b : Bool). lives s 0 ≡ b → TurnFits c s (if b then turn_of (Of 0) (First order) else part_turn s (Ordered order))) [
+    | true ↦ λ live. event_alone given (λ n. n ≡ 0) c s 0 h
+    | false ↦ λ dead. (elim (may_begin s.threads) as (λ (b : Bool). lives s 0 ≡ false → may_begin s.threads ≡ b → TurnFits c s (if b then turn_of NextPart (Ordered order) else None))
+        [ true ↦ λ dead may. workers_begin c s h dead may | false ↦ λ dead may. over s dead h.workers may ]) dead refl
+  ]) refl
   turn_fits (Ordered order) h = ordered_fits order h
   turn_fits (Rounds from) h = round_fits from h
   turn_fits Last h = (elim (lives s 0) as (λ (b : Bool). lives s 0 ≡ b → TurnFits c s (if b then turn_of (Of 0) Last else None))
