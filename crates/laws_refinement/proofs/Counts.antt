@@ -2,10 +2,9 @@
 use Rattle.std.proofs.{Common.{◌≡◌, ℕ, ◌+◌, ◌<◌, ◌≤◌, nat_lt, Bool, true, false, Option, Some, None, refl, sym, ap, ◌∙◌, subst, arith, ◌&&◌, if◌then◌else◌}, lemmas.Bool.{ltb-true}}
 use Rattle.lists.proofs.TestLaws.{both_are_true}
 use Rattle.checked_program.specs.MarkedProgram.{MarkedProgram}
-use Rattle.machine_types.specs.{Elision.enters_marked, Events.moved, History.{Fate, GoesOn, Fails, Finishes, fate}, Threads.{Attempt, Thread}, declared.phase.Phase.Phase}
+use Rattle.machine_types.specs.{Elision.enters_marked, Events.moved, History.{Fate, GoesOn, Fails, Finishes, fate}, Threads.{Attempt, Thread}, declared.phase.Phase.{Phase, TheVariants.Enter}}
 use Rattle.laws_refinement.{specs.Entries.{comes_to_enter, fails_more, failed_after, KeepsCount}, proofs.{Inside.Inside, OutsideEntries.{is_entering, ComesNew, Begins, MovesTo, outside_moves}}}
 use Rattle.laws_refinement.proofs.Within.{HasFate, inside_moves}
-use Rattle.machine_types.specs.declared.phase.Phase.TheVariants as phases
 
 -- of a thread that is y so many have failed
 pub record Counts (y : Thread) (failed : ℕ) : Type 0 where
@@ -13,13 +12,13 @@ pub record Counts (y : Thread) (failed : ℕ) : Type 0 where
   pub kept : KeepsCount y.attempt y.phase failed
 
 elsewhere : (phase : Phase) (failed : ℕ) → is_entering phase ≡ false → KeepsCount None phase failed
-elsewhere (phases.Enter m tried) failed e = absurd (cc)
+elsewhere (Enter m tried) failed e = absurd (cc)
 elsewhere phase failed e = tt
 
 -- ---- outside an attempt
 
 comes_new : (was now : Phase) (failed : ℕ) → ComesNew was now → KeepsCount None now (if comes_to_enter was now then 0 else failed)
-comes_new was (phases.Enter m tried) failed k = subst (λ (phase : Phase). tried ≡ (if comes_to_enter phase (phases.Enter m tried) then 0 else failed)) (sym k.0) k.1
+comes_new was (Enter m tried) failed k = subst (λ (phase : Phase). tried ≡ (if comes_to_enter phase (Enter m tried) then 0 else failed)) (sym k.0) k.1
 comes_new was now failed k = tt
 
 none_more : (b : Bool) (failed : ℕ) → failed ≤ 2 → (if b then 0 else failed) ≤ 2
@@ -27,15 +26,12 @@ none_more true failed few = omega arith
 none_more false failed few = few
 
 -- fewer have been tried than may
-few_tried : (elide : Bool) (tried : ℕ) (marked : Bool) → (elide && nat_lt tried 2 && marked) ≡ true → tried < 2
-few_tried elide tried marked may = ltb-true tried 2 (both_are_true elide (nat_lt tried 2) (both_are_true (elide && nat_lt tried 2) marked may).0).1
-
 module _ (c : MarkedProgram) (x y : Thread) (got failed : ℕ) where
   -- of the attempt that begins
   begins_counted : (a : Attempt) → Begins c x y got a → KeepsCount None x.phase failed → KeepsCount (Some a) y.phase failed
   begins_counted a b kept =
       let same : b.tried ≡ failed = subst (λ (phase : Phase). KeepsCount None phase failed) b.enters kept in
-      let few = few_tried x.cfg.elide b.tried (enters_marked c x.frames) b.may in
+      let few = ltb-true b.tried 2 (both_are_true x.cfg.elide (nat_lt b.tried 2) (both_are_true (x.cfg.elide && nat_lt b.tried 2) (enters_marked c x.frames) b.may).0).1 in
       (b.number ∙ ap (λ (n : ℕ). n + 1) same, subst (λ (n : ℕ). n < 2) same few)
 
   outside_counted : (o : Option Attempt) → y.attempt ≡ o → MovesTo c x y got o → KeepsCount None x.phase failed → failed ≤ 2 → Counts y (if comes_to_enter x.phase y.phase then 0 else failed)

@@ -4,13 +4,12 @@ use Rattle.std.{proofs.lemmas.{Bool.Decides.{nat_tests, Decides-eqb}, List.{appe
 use Rattle.lists.proofs.ListLaws.{same_some}
 use Rattle.jvm_types.specs.declared.fixed_words.TheConstants.{NEXT_FREE_WORD}
 use Rattle.checked_program.specs.MarkedProgram.{MarkedProgram, IsMarked}
-use Rattle.machine_types.specs.{Attempts.{Stays, IsLedToPresent, OwesNothing, Owes, Attempts}, Construction.{AreFrozen, AreOwned, Construction, Owning}, OwnedPlaces.{Stores, nowhere}}
+use Rattle.machine_types.specs.{Attempts.{Stays, IsLedToPresent, OwesNothing, Owes, Attempts}, Construction.{AreFrozen, AreOwned, Construction, Owning}}
 use Rattle.machine_types.specs.Core.{Core, Happening, Of, NextPart, start, event, event_of, may_begin, next, all_happened, core, outcome}
-use Rattle.machine_types.specs.{Counting.{run_at, take_at, count_along, CountsFit, AreCounted}, Events.moved, Facts.FactsBeside}
-use Rattle.machine_types.specs.Faithful.{EndsFit, PrintsFit, IsPlainRun, IsSilent, IsOver, IsFaithful}
+use Rattle.machine_types.specs.{Counting.{run_at, take_at, count_along, CountsFit, AreCounted}, Events.moved, Facts.FactsBeside, Faithful.{EndsFit, PrintsFit, IsSilent, IsFaithful}}
 use Rattle.machine_types.specs.History.{Past, no_past, Told, told_start, past_after, pasts_after, told, all_told, shown_at, steps_of, shown_of, shown, shadow_from, shadow, past}
-use Rattle.machine_types.specs.{PlainLaws.InstructionsChangeMemory, PlainMemory.{Object, start_objects}, PlainState.{Plain, plain_start}, PlainSteps.plain_run, Settings.AreSettings}
-use Rattle.machine_types.specs.{StartLaws.phase_at_start, Threads.{Attempt, Thread}, Worlds.World, declared.{config.Config.Config, phase.Phase.Phase, plain.PlainStep.PlainStep}}
+use Rattle.machine_types.specs.{OwnedPlaces.{Stores, nowhere}, PlainLaws.InstructionsChangeMemory, PlainMemory.{Object, start_objects}, PlainState.{Plain, plain_start}, PlainSteps.plain_run}
+use Rattle.machine_types.specs.{Settings.AreSettings, StartLaws.phase_at_start, Threads.{Attempt, Thread}, Worlds.World, declared.{config.Config.Config, phase.Phase.Phase, plain.PlainStep.PlainStep}}
 use Rattle.machine_types.proofs.Lists.{got_when_set}
 use Rattle.laws_threads.{specs.{GivenThread.GivenIsKept, PartLaws.counted_next, StateLaws.{counted_of, counted_after}}, proofs.StateSteps.{set_other as got_other}}
 use Rattle.laws_states.specs.{HeapFacts.objects_after, RunFacts.HaveWidth, StateFacts.StateFacts}
@@ -18,7 +17,7 @@ use Rattle.laws_objects.specs.ConstructionLaws.{no_builders, BuildsOn}
 use Rattle.laws_simulation.{specs.{OutcomeLaws.WorkersKeepNone, StandsBeside.StandsBeside}, proofs.{EndedParts.ends_are_those, OutcomePrints.{next_keeps_prints, start_has_prints}}}
 use Rattle.laws_simulation.proofs.{PlainCounts.others_are_not_counted, WorkerEnds.{events_keep_none, next_keeps_none, start_keeps_none}}
 use Rattle.laws_refinement.specs.{ElidedSteps.{EventStands, found_of}, FaithfulRuns.{AreEventLaws, AreElidedLaws, RunsFollow}, RunsStand.{told_after, RunStands, RunsStand}}
-use Rattle.laws_refinement.proofs.{Attempting.{Event, event_at}, EventMoves.{MovesIn, event_moves}, MoreSteps.{run_on, count_on, all_one, recounted, counted_at_start}, NextUntried.{none_tries, same_threads}}
+use Rattle.laws_refinement.proofs.{Attempting.event_at, EventMoves.{MovesIn, event_moves}, MoreSteps.{run_on, count_on, all_one, recounted, counted_at_start}, NextUntried.{none_tries, same_threads}}
 use Rattle.laws_refinement.proofs.{SameCounts.{came_from, counted_same}}
 
 -- ---- what holds after a list of events, with its plain steps
@@ -47,9 +46,6 @@ record Shadowed (c : MarkedProgram) (cfg : Config) (frozen owned : ℕ → Bool)
 
 owes_none : (c : MarkedProgram) (stores : Stores) (objects : List Object) (w : World) (s : Core) (t : ℕ) (was : Phase) (x : Thread) (o : Option Attempt) (d : Past) → o ≡ None → OwesNothing d → Owes c stores objects w s t was x o d
 owes_none c stores objects w s t was x o d e k = subst (λ (a : Option Attempt). Owes c stores objects w s t was x a d) (sym e) k
-
-owed_none : (c : MarkedProgram) (stores : Stores) (objects : List Object) (w : World) (s : Core) (t : ℕ) (was : Phase) (x : Thread) (o : Option Attempt) (d : Past) → o ≡ None → Owes c stores objects w s t was x o d → OwesNothing d
-owed_none c stores objects w s t was x o d e k = subst (λ (a : Option Attempt). Owes c stores objects w s t was x a d) e k
 
 owes_over : (c : MarkedProgram) (stores : Stores) (objects : List Object) (w : World) (s r : Core) (t : ℕ) (was : Phase) (x : Thread) (o : Option Attempt) (d : Past) → r.words ≡ s.words → Owes c stores objects w s t was x o d → Owes c stores objects w r t was x o d
 owes_over c stores objects w s r t was x None d e k = k
@@ -114,11 +110,9 @@ module _ (beginning : Beginning) where
       guards = λ outside. elided.guards c cfg l.objects l.was frozen (owning l.stores) l.world s t x marked width l.facts l.built there outside;
     }
 
-    abbrev its : Event
-    its = event_at c cfg l.objects l.was frozen (owning l.stores) (owning builds.stores) l.world builds.later s t x turns
-
     moves : MovesIn c l.objects s t x (slice_index_or pasts t no_past) l.state x.attempt
-    moves = event_moves memory laws elided its (slice_index_or pasts t no_past) l.state l.beside (l.owes t x there)
+    moves = event_moves memory laws elided (event_at c cfg l.objects l.was frozen (owning l.stores) (owning builds.stores) l.world builds.later s t x turns)
+        (slice_index_or pasts t no_past) l.state l.beside (l.owes t x there)
 
     -- it is the one that moved, or another that is as it was
     by_thread : (P : ℕ → Thread → Type 0) → P t (moved c x x.phase (found_of c s x)) → ((u : ℕ) (z : Thread) → (u == t) ≡ false → slice_get s.threads u ≡ Some z → P u z)
@@ -148,16 +142,6 @@ module _ (beginning : Beginning) where
 
     abbrev owed : ℕ → Thread → Type 0
     owed u z = Owes c builds.stores (objects_after c.program s t l.objects) builds.later (event c s t) u (counted_after c l.was s t u) z z.attempt (slice_index_or (slice_set pasts t past_now) u no_past)
-
-    owed_here : owed t now
-    owed_here = subst (λ (p : Past). Owes c builds.stores (objects_after c.program s t l.objects) builds.later (event c s t) t (counted_after c l.was s t t) now now.attempt p) (sym past_here)
-        (elided.own_keeps c cfg l.objects l.was frozen (owning l.stores)
-        (owning builds.stores) l.world builds.later s t x
-        (slice_index_or pasts t no_past) turns (l.owes t x there))
-
-    owed_other : (u : ℕ) (z : Thread) → (u == t) ≡ false → slice_get s.threads u ≡ Some z → owed u z
-    owed_other u z e f = subst (λ (p : Past). Owes c builds.stores (objects_after c.program s t l.objects) builds.later (event c s t) u (counted_after c l.was s t u) z z.attempt p) (sym (past_other u e))
-        (elided.others_keep c cfg l.objects l.was frozen (owning l.stores) (owning builds.stores) l.world builds.later s t u x z (slice_index_or pasts u no_past) turns (apart u t e) f (l.owes u z f))
 
     abbrev counted : ℕ → Thread → Type 0
     counted u z = Counted c (steps ++ more) u z (slice_index_or (slice_set pasts t past_now) u no_past)
@@ -193,8 +177,12 @@ module _ (beginning : Beginning) where
       run = run_on c.program steps more (plain_start c.program) l.state l.run ∙ moves.run;
       beside = moves.beside;
       many = length-set pasts t past_now ∙ l.many;
-      owes = λ u z e. by_thread owed owed_here owed_other u z e;
-      counts = λ u z e. by_thread counted counted_here counted_other u z e;
+      owes = by_thread owed
+          (subst (λ (p : Past). Owes c builds.stores (objects_after c.program s t l.objects) builds.later (event c s t) t (counted_after c l.was s t t) now now.attempt p) (sym past_here)
+          (elided.own_keeps c cfg l.objects l.was frozen (owning l.stores) (owning builds.stores) l.world builds.later s t x (slice_index_or pasts t no_past) turns (l.owes t x there)))
+          (λ u z e f. subst (λ (p : Past). Owes c builds.stores (objects_after c.program s t l.objects) builds.later (event c s t) u (counted_after c l.was s t u) z z.attempt p) (sym (past_other u e))
+          (elided.others_keep c cfg l.objects l.was frozen (owning l.stores) (owning builds.stores) l.world builds.later s t u x z (slice_index_or pasts u no_past) turns (apart u t e) f (l.owes u z f)));
+      counts = by_thread counted counted_here counted_other;
       prints = moves.prints l.prints;
       keep_none = events_keep_none given c s t l.keep_none;
     }
@@ -205,28 +193,22 @@ module _ (beginning : Beginning) where
     abbrev IsKept : (t : ℕ) → Thread → Type 0
     IsKept t z = Owes c l.stores l.objects l.world (next c s) t (counted_next c l.was s t) z z.attempt (slice_index_or pasts t no_past) × Counted c steps t z (slice_index_or pasts t no_past)
 
-    -- of a thread as it was
-    kept_same : may_begin s.threads ≡ false → (t : ℕ) (z : Thread) → slice_get s.threads t ≡ Some z → IsKept t z
-    kept_same may t z e =
-        let counted : counted_next c l.was s t ≡ l.was t = ap (λ (b : Bool). if b then counted_of (l.was t) (slice_get (next c s).threads t) else l.was t) may in (
-          subst (λ (phase : Phase). Owes c l.stores l.objects l.world (next c s) t phase z z.attempt (slice_index_or pasts t no_past)) (sym counted)
-              (owes_over c l.stores l.objects l.world s (next c s) t (l.was t) z z.attempt (slice_index_or pasts t no_past) refl (l.owes t z e)),
-          l.counts t z e,
-        )
-
-    -- of one that begins its part, when none is in an attempt
-    kept_begun : may_begin s.threads ≡ true → (t : ℕ) (z : Thread) → slice_get (next c s).threads t ≡ Some z → IsKept t z
-    kept_begun may t z e =
+    -- of one that begins its part, when none is in an attempt, or of a thread as it was
+    kept : (b : Bool) → may_begin s.threads ≡ b → (t : ℕ) (z : Thread) → slice_get (next c s).threads t ≡ Some z → IsKept t z
+    kept true may t z e =
         let k = came_from c.program s.threads t z l.facts.threads.parts e in
         let none : k.old.attempt ≡ None = none_tries c l.was s.threads may l.facts.threads.parts l.facts.structure t k.old k.there in
-        let nothing : OwesNothing (slice_index_or pasts t no_past) = owed_none c l.stores l.objects l.world s t (l.was t) k.old k.old.attempt (slice_index_or pasts t no_past) none (l.owes t k.old k.there) in (
+        let nothing : OwesNothing (slice_index_or pasts t no_past) = subst (λ (a : Option Attempt). Owes c l.stores l.objects l.world s t (l.was t) k.old a (slice_index_or pasts t no_past)) none (l.owes t k.old k.there) in (
           owes_none c l.stores l.objects l.world (next c s) t (counted_next c l.was s t) z z.attempt (slice_index_or pasts t no_past) (k.same.attempt ∙ none) nothing,
           counted_same k.old z (slice_index_or pasts t no_past) _ _ none k.same (l.counts t k.old k.there),
         )
-
-    kept : (b : Bool) → may_begin s.threads ≡ b → (t : ℕ) (z : Thread) → slice_get (next c s).threads t ≡ Some z → IsKept t z
-    kept true may t z e = kept_begun may t z e
-    kept false may t z e = kept_same may t z (ap (λ (threads : List Thread). slice_get threads t) (sym (same_threads c.program s.threads may)) ∙ e)
+    kept false may t z e =
+        let there : slice_get s.threads t ≡ Some z = ap (λ (threads : List Thread). slice_get threads t) (sym (same_threads c.program s.threads may)) ∙ e in
+        let counted : counted_next c l.was s t ≡ l.was t = ap (λ (b : Bool). if b then counted_of (l.was t) (slice_get (next c s).threads t) else l.was t) may in (
+          subst (λ (phase : Phase). Owes c l.stores l.objects l.world (next c s) t phase z z.attempt (slice_index_or pasts t no_past)) (sym counted)
+              (owes_over c l.stores l.objects l.world s (next c s) t (l.was t) z z.attempt (slice_index_or pasts t no_past) refl (l.owes t z there)),
+          l.counts t z there,
+        )
 
     begins : Follows (next c s) pasts steps
     begins = record {
@@ -271,15 +253,11 @@ module _ (beginning : Beginning) where
 
   -- ---- a list of events
 
-  one_of : (w : Told) (steps : List PlainStep) (t : ℕ) → Follows w.core w.pasts steps
-      → Follows (event c w.core t) (pasts_after c w t (slice_get w.core.threads t)) (steps ++ shown_of c w t (slice_get w.core.threads t))
-  one_of w steps t l = (elim (slice_get w.core.threads t) as (λ (o : Option Thread). slice_get w.core.threads t ≡ o → Follows (event c w.core t) (pasts_after c w t o) (steps ++ shown_of c w t o)) [
+  one : (w : Told) (steps : List PlainStep) (h : Happening) → Follows w.core w.pasts steps → Follows (told c w h).core (told c w h).pasts (steps ++ shown c w h)
+  one w steps (Of t) l = (elim (slice_get w.core.threads t) as (λ (o : Option Thread). slice_get w.core.threads t ≡ o → Follows (event c w.core t) (pasts_after c w t o) (steps ++ shown_of c w t o)) [
     | None ↦ λ e. subst (λ (s : Core). Follows s w.pasts (steps ++ [])) (sym (ap (event_of c w.core t) e)) (subst (λ (ss : List PlainStep). Follows w.core w.pasts ss) (sym (append-nil steps)) l)
     | Some x ↦ λ e. goes_on w.core w.pasts steps l t x e
   ]) refl
-
-  one : (w : Told) (steps : List PlainStep) (h : Happening) → Follows w.core w.pasts steps → Follows (told c w h).core (told c w h).pasts (steps ++ shown c w h)
-  one w steps (Of t) l = one_of w steps t l
   one w steps NextPart l = subst (λ (ss : List PlainStep). Follows (next c w.core) w.pasts ss) (sym (append-nil steps)) (begins w.core w.pasts steps l)
 
   all : (hs : List Happening) (w : Told) (steps : List PlainStep) → Follows w.core w.pasts steps → Follows (all_told c w hs).core (all_told c w hs).pasts (steps ++ shadow_from c w hs)
@@ -310,17 +288,13 @@ module _ (beginning : Beginning) where
   silent_of : (hs : List Happening) (t : ℕ) → IsSilent c (core c cfg hs) t
   silent_of hs t x a e f = let l = reached hs in elided.silent c cfg l.objects l.was (core c cfg hs) t x a marked width l.facts e f
 
-  ends_of : (hs : List Happening) (r : IsPlainRun c cfg hs) → IsOver (core c cfg hs) → EndsFit c.program (outcome (core c cfg hs)) r.state
-  ends_of hs r over =
-      let l = reached hs in
-      subst (λ (q : Plain). EndsFit c.program (outcome (core c cfg hs)) q) (same_some (sym l.run ∙ r.run)) (ends_are_those c cfg l.objects l.was (core c cfg hs) l.state marked l.facts l.beside l.keep_none over)
-
   faithful : (hs : List Happening) → IsFaithful c cfg hs
   faithful hs = record {
     plain = λ before rest e. (let l = reached before in record { state = l.state; run = l.run; agrees = l.beside.agrees; prints = l.prints });
     counts = λ before rest e. counted_of_all before;
     silent = λ before rest t e. silent_of before t;
-    ends = λ r over. ends_of hs r over;
+    ends = λ r over. (let l = reached hs in subst (λ (q : Plain). EndsFit c.program (outcome (core c cfg hs)) q) (same_some (sym l.run ∙ r.run))
+        (ends_are_those c cfg l.objects l.was (core c cfg hs) l.state marked l.facts l.beside l.keep_none over));
   }
 
   -- ---- with all facts

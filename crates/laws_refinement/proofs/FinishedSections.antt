@@ -1,13 +1,12 @@
 -- Where a section is done that ran without its lock, its entry, what it did and its exit are a run of the plain machine, to a state
 -- that the new one stands beside.
-use Rattle.std.proofs.Common.{◌≡◌, ◌≢◌, inl, inr, ℕ, suc, ◌≤◌, false, cond, List, [], ◌∷◌, Option, Some, None, refl, sym, ap, ◌∙◌, subst, arith, slice_index, slice_set}
-use Rattle.jvm_types.specs.declared.fixed_words.TheConstants.{FIRST_READY_WORD, NEXT_FREE_WORD}
-use Rattle.machine_types.specs.{Accesses.found_by, Agreement.{ThreadFits, depth_for}, Attempts.Owes, Core.{Core, event}, Counting.{run_at, take_at, count_along}}
-use Rattle.machine_types.specs.{Elision.elided, Events.wanted, Going.goes_on, HeldMonitors.{held_at}, History.{Fate, Finishes, Past, fate, shown_at, shown_by, steps_of}, LockWords.lock_of}
-use Rattle.machine_types.specs.{Onward.{Onward, after}, OwnedPlaces.Stores, Owners.{hold_by_word, lock_at, owner_at, references_of}, PlainMemory.Object, PlainState.{Plain, PlainThread, Holding, value_at, holding_at}}
-use Rattle.machine_types.specs.{PlainSteps.plain_run, Replay.{replayed, at_entry, at_present}, Structure.{IsAs, Stands}, Threads.{Attempt, Thread}, Typed.{AttemptHolds, HasClass, PhaseHolds}}
-use Rattle.machine_types.{specs.{Worlds.World, declared.{lock.{LockWord.LockWord}, phase.Phase.Phase, plain.Act.Act}}, proofs.AttemptReplay.hold}
-use Rattle.machine_types.proofs.PlainStepLaws.{none_left}
+use Rattle.std.proofs.Common.{◌≡◌, inl, inr, ℕ, suc, cond, List, [], ◌∷◌, Option, Some, None, refl, sym, ap, ◌∙◌, subst, arith, slice_index, slice_set}
+use Rattle.jvm_types.specs.declared.{fixed_words.TheConstants.NEXT_FREE_WORD, outcome.End.TheVariants.Returned}
+use Rattle.machine_types.specs.{Accesses.found_by, Agreement.{ThreadFits, depth_for}, Attempts.Owes, Core.{Core, event}, Counting.{run_at, take_at, count_along}, Elision.elided, Events.wanted}
+use Rattle.machine_types.specs.{Going.goes_on, HeldMonitors.held_at, History.{Fate, Finishes, Past, fate, shown_at, shown_by, steps_of}, LockWords.lock_of, Onward.{Onward, after}, OwnedPlaces.Stores}
+use Rattle.machine_types.specs.{Owners.{hold_by_word, lock_at, owner_at, references_of}, PlainMemory.Object, PlainState.{Plain, PlainThread, Holding, value_at, holding_at}, PlainSteps.plain_run}
+use Rattle.machine_types.specs.{Replay.{replayed, at_entry, at_present}, Structure.{IsAs, Stands}, Threads.{Attempt, Thread}, Typed.{AttemptHolds, HasClass, PhaseHolds}, Worlds.World}
+use Rattle.machine_types.{specs.declared.{lock.LockWord.{LockWord, TheVariants.Free}, phase.Phase.Phase, plain.Act.Act}, proofs.{AttemptReplay.hold, PlainStepLaws.none_left}}
 use Rattle.laws_threads.proofs.{Releases.goes_behind, ThreadMove.{goes_held, goes_attempt}}
 use Rattle.laws_states.{specs.{HeapFacts.{objects_after, objects_by, objects_of}, PartsStand.DoneRoots, SiteLaws.SitesDiffer, Sites.HasObject}, proofs.Lists.{contained_got, same_or_not}}
 use Rattle.laws_states.proofs.{LockViews.not_held, Phases.IsOldPhase, WordViews.{lock_of_word, object_has}}
@@ -16,9 +15,7 @@ use Rattle.laws_simulation.proofs.{HoldingsAlike.{alike_kept, free_then, put_els
 use Rattle.laws_simulation.proofs.WaitBits.{same_wait_bit}
 use Rattle.laws_refinement.{specs.ElidedSteps.{FinishesBeside, SectionsFinish, found_of}, proofs.{Playing.{Player, has_bit, plain_fits, plain_there}, DoneSections.{IsDone, is_done, as_noted, event_is}, FinishedPlaces.staying_value}}
 use Rattle.laws_refinement.proofs.{WholeSections.{IsWhole, whole, holdings_behind, at_end, behind_section, section_acts}}
-use Rattle.jvm_types.specs.declared.outcome.End.TheVariants as ends
 use Rattle.machine_types.specs.PlainState as plain
-use Rattle.machine_types.specs.declared.lock.LockWord.TheVariants as locks
 use Rattle.machine_types.specs.declared.phase.Phase.TheVariants as phases
 
 -- ---- holdings: the monitor is free before and behind, and the others are as they were
@@ -46,14 +43,8 @@ module _ (differ : SitesDiffer) (player : Player) (d : IsDone player.x player.a 
       let object = holds.0.1 in
       (object.0, object.1, object.2)
 
-  some_monitor : a.monitor ≢ 0
-  some_monitor none =
-      let k = monitor_object in
-      let begins : FIRST_READY_WORD ≤ k.0.reference = facts.heap.apart.begin k.1.0 k.0 (contained_got objects k.0 k.1) in
-      omega (arith, begins, k.2, none)
-
-  lock_is : lock_at (references_of objects) s.words a.monitor ≡ locks.Free a.noted
-  lock_is = ap (λ b. cond b (lock_of (slice_index s.words a.monitor)) (locks.Free 0)) (object_has objects a.monitor monitor_object) ∙ ap lock_of (as_noted c s t x a there d) ∙ lock_of_word (locks.Free a.noted)
+  lock_is : lock_at (references_of objects) s.words a.monitor ≡ Free a.noted
+  lock_is = ap (λ b. cond b (lock_of (slice_index s.words a.monitor)) (Free 0)) (object_has objects a.monitor monitor_object) ∙ ap lock_of (as_noted c s t x a there d) ∙ lock_of_word (Free a.noted)
 
   free : holding_at q.holdings a.monitor ≡ None
   free = free_then q.holdings s.threads beside.agrees.monitors a.monitor
@@ -64,13 +55,9 @@ module _ (differ : SitesDiffer) (player : Player) (d : IsDone player.x player.a 
   abbrev twin : PlainThread
   twin = (plain_there player).0
 
-  awake : (m : ℕ) → has_bit player m ≡ false
-  awake m = same_wait_bit c.program objects s q beside.known beside.others facts.heap.new_objects t m
-      ∙ no_own_bit (references_of objects) was s facts.owners facts.waiting t x there (subst IsAwake (sym counts) tt) m
-
   under_way : (n : Past) → IsUnderWay c.program x.part x.roots (at_end x a (was t) n twin.ended)
   under_way n =
-      let runs = part_runs player.member (λ e. let bad : phases.Leave a.monitor d.after_it ≡ phases.Ended ends.Returned = sym d.leaves ∙ e in cc) (subst (λ (phase : Phase). DoneRoots c.program phase x.roots) d.leaves) in
+      let runs = part_runs player.member (λ e. let bad : phases.Leave a.monitor d.after_it ≡ phases.Ended Returned = sym d.leaves ∙ e in cc) (subst (λ (phase : Phase). DoneRoots c.program phase x.roots) d.leaves) in
       record {
         roots = refl;
         ended = beside.ends t x twin there (plain_there player).1 ∙ none_ends c.program x.part x.roots x.phase runs (ap (λ (phase : Phase). end_of_done (0 ∷ []) phase) d.leaves);
@@ -98,7 +85,8 @@ module _ (differ : SitesDiffer) (player : Player) (d : IsDone player.x player.a 
     behind = goes_on (elided x) goes.0
 
     alike : OwnFits c.program (has_bit player) behind (plain.plain_goes_on (at_end x a (was t) n twin.ended) goes.0)
-    alike = going_alike c.program (has_bit player) awake (elided x) (at_end x a (was t) n twin.ended) goes.0 (under_way n)
+    alike = going_alike c.program (has_bit player) (λ m. same_wait_bit c.program objects s q beside.known beside.others facts.heap.new_objects t m
+        ∙ no_own_bit (references_of objects) was s facts.owners facts.waiting t x there (subst IsAwake (sym counts) tt) m) (elided x) (at_end x a (was t) n twin.ended) goes.0 (under_way n)
 
     stands_then : StandsBeside c.program objects (record { words = s.words; threads = slice_set s.threads t behind }) after_all
     stands_then = moved_beside player.member s.words behind (holdings_behind q.holdings a.monitor t a.inner) (plain.plain_goes_on (at_end x a (was t) n twin.ended) goes.0) q.prints (record {
@@ -112,7 +100,7 @@ module _ (differ : SitesDiffer) (player : Player) (d : IsDone player.x player.a 
       old = λ i word e. never_made x.phase i word (subst IsOldPhase (sym d.leaves) tt) e;
       new = λ i word e. never_made behind.phase i word (goes_old (elided x) goes.0) e;
       part = goes_part (elided x) goes.0;
-      rests = λ e. absurd (let bad : phases.Leave a.monitor d.after_it ≡ phases.Ended ends.Returned = sym d.leaves ∙ e in cc);
+      rests = λ e. absurd (let bad : phases.Leave a.monitor d.after_it ≡ phases.Ended Returned = sym d.leaves ∙ e in cc);
     })
 
     stands_behind : StandsBeside c.program (objects_after c.program s t objects) (event c s t) after_all
@@ -140,7 +128,7 @@ module _ (differ : SitesDiffer) (player : Player) (d : IsDone player.x player.a 
         here = (plain_there player).1;
         fits = plain_fits player;
         free = free;
-        some = some_monitor;
+        some = λ none. (let k = monitor_object in let begins = facts.heap.apart.begin k.1.0 k.0 (contained_got objects k.0 k.1) in omega (arith, begins, k.2, none));
         was = was t;
         d = n;
         leads = leads;

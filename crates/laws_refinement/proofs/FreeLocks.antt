@@ -1,15 +1,13 @@
 -- An event never leaves the word of a free lock with the count that an attempt noted, unless it stood there before: a release
 -- raises the count.
 use Rattle.std.proofs.Common.{◌≡◌, ◌≢◌, ℕ, zero, suc, ◌+◌, ◌<◌, ◌≤◌, nat_lt, nat_le, Bool, true, false, Option, Some, None, refl, sym, ap, ◌∙◌, subst, arith, ◌==◌, slice_get, if◌then◌else◌}
-use Rattle.jvm_types.specs.declared.program.{FieldInfo.FieldInfo, Kind.Kind, Program.Program, Target.Target}
+use Rattle.jvm_types.specs.declared.program.{FieldInfo.FieldInfo, Kind.{Kind, TheVariants.Ref}, Program.Program, Target.{Target, TheVariants.Field}}
 use Rattle.checked_program.specs.MarkedProgram.{MarkedProgram}
 use Rattle.machine_types.specs.{Accesses.{accessed, left_by}, Events.wanted, FoundWords.{kind_content, field_content, variable_content, effect_content, run_content, leave_content, content_at}}
 use Rattle.machine_types.specs.{Frames.{Top, top_of, effect_at}, HeldMonitors.held_at, Instructions.{effect_wants, run_wants}, LockWords.word_of_lock}
 use Rattle.machine_types.specs.{Monitors.{Claim, Has, Tries, HasNot, claim_by, count_kept, enter_wants, finish_wants, freed, leave_wants, release}, Structure.IsFlat, Threads.{Attempt, Thread}}
 use Rattle.machine_types.specs.declared.{access.Access.Access, effect.Effect.{Effect, TheVariants.{Goes, Calls, Reads, Writes}}, lock.{Held.Held, Kept.Kept}, phase.Phase.Phase}
 use Rattle.laws_states.{specs.Sites.{LockOf, Suits}, proofs.LeftStands.{leaves, no_access, loaded, looked, checked}}
-use Rattle.jvm_types.specs.declared.program.Kind.TheVariants as kinds
-use Rattle.jvm_types.specs.declared.program.Target.TheVariants as targets
 use Rattle.machine_types.specs.declared.lock.Kept.TheVariants as keeps
 use Rattle.machine_types.specs.declared.lock.LockWord.TheVariants as locks
 use Rattle.machine_types.specs.declared.phase.Phase.TheVariants as phases
@@ -17,11 +15,11 @@ use Rattle.machine_types.specs.declared.phase.Phase.TheVariants as phases
 -- ---- a field is no lock word
 
 kind_suits_none : (k : Kind) (m : ℕ) → Suits (kind_content k) (LockOf m) → ⊥
-kind_suits_none (kinds.Ref class) m suits = suits
+kind_suits_none (Ref class) m suits = suits
 kind_suits_none k m suits = suits
 
 variable_suits_none : (p : Program) (target : Target) (m : ℕ) → Suits (variable_content p target) (LockOf m) → ⊥
-variable_suits_none p (targets.Field number) m suits = (elim (slice_get p.fields number) as (λ (f : Option FieldInfo). (m : ℕ) → Suits (field_content f) (LockOf m) → ⊥)
+variable_suits_none p (Field number) m suits = (elim (slice_get p.fields number) as (λ (f : Option FieldInfo). (m : ℕ) → Suits (field_content f) (LockOf m) → ⊥)
     [ None ↦ λ m suits. suits | Some f ↦ λ m suits. kind_suits_none f.kind m suits ]) m suits
 variable_suits_none p target m suits = suits
 
@@ -51,9 +49,6 @@ module _ (c : MarkedProgram) (x : Thread) (m n got : ℕ) (last : n < x.cfg.rang
     stays e = e
 
     -- the monitor of the access
-    here : (a : Access) → Some a ≡ Some access → accessed a ≡ m
-    here a e = let same : a ≡ access = cc in ap accessed same ∙ at
-
     -- ---- an instruction looks at it
 
     effect_leaves : (pc : ℕ) (target : Target) (e : Effect) → effect_wants x pc e ≡ Some access → Suits (effect_content c.program target e) (LockOf m) → WasNoted (left_by access got)
@@ -76,7 +71,7 @@ module _ (c : MarkedProgram) (x : Thread) (m n got : ℕ) (last : n < x.cfg.rang
 
     release_leaves : (b : ℕ) (h : Held) (k : Kept) → held_at x.held b ≡ Some h → h.kept ≡ k → Some (release x b k) ≡ Some access → Suits (leave_content (Has (record h { kept = k }))) (LockOf m) → WasNoted (left_by access got)
     release_leaves b h (keeps.Flat count) e k w suits =
-        leaves WasNoted access got stays (release x b (keeps.Flat count)) w (swapped (word_of_lock (locks.Held x.number)) (freed x count) (freed_of b count h e k (here (release x b (keeps.Flat count)) w)))
+        leaves WasNoted access got stays (release x b (keeps.Flat count)) w (swapped (word_of_lock (locks.Held x.number)) (freed x count) (freed_of b count h e k (let same : release x b (keeps.Flat count) ≡ access = cc in ap accessed same ∙ at)))
     release_leaves b h (keeps.Fat r) e k w suits = absurd suits
 
     finish_leaves : (b inner : ℕ) → finish_wants b inner ≡ Some access → WasNoted (left_by access got)

@@ -2,16 +2,14 @@
 use Rattle.std.proofs.Common.{◌≡◌, inl, inr, ℕ, suc, List, [], ◌++◌, Option, Some, None, refl, sym, ap, ◌∙◌, subst, arith, slice_get, slice_index}
 use Rattle.machine_types.specs.{Attempts.{IsAsNoted, Owes, OwesNothing}, Core.{Core, accessed_by, event_of, event}, Events.{wanted, moved}}
 use Rattle.machine_types.specs.{History.{Fate, GoesOn, Fails, Finishes, Past, fate, acts_of, past_by, past_after}, LockWords.word_of_lock}
-use Rattle.machine_types.specs.{Replay.{Alone, replayed, begun_and_done, status_inside, at_entry, at_present}, Structure.{IsAs, IsStructured}, Threads.{Attempt, Thread}, Worlds.{Builder, IsOwnOrFinished}}
-use Rattle.machine_types.{specs.declared.{phase.Phase.Phase, plain.Act.Act}, proofs.Lists.got_when_set}
+use Rattle.machine_types.specs.{Replay.{Alone, replayed, begun_and_done, status_inside, at_entry, at_present}, Structure.{IsAs, IsStructured}, Threads.{Attempt, Thread}, Worlds.IsOwnOrFinished}
+use Rattle.machine_types.{specs.declared.{lock.LockWord.TheVariants.Free, phase.Phase.{Phase, TheVariants.Run}, plain.Act.Act}, proofs.Lists.got_when_set}
 use Rattle.laws_threads.specs.{StateLaws.counted_after, TopFrames.EffectsAreAllowed}
 use Rattle.laws_states.{specs.{FoundLaws.HeapWordsFit, HeapFacts.{objects_after}}, proofs.Lists.same_or_not}
-use Rattle.laws_refinement.{specs.ElidedSteps.{OwnKeepsAttempt, found_of, next_free}, proofs.{GoingOn.{Grows, IsElementRead, Knows, all_done, inner_as, none_begun, replayed_more}, Instructions.ByFate}}
+use Rattle.laws_refinement.{specs.ElidedSteps.{OwnKeepsAttempt, found_of, next_free}, proofs.{GoingOn.{IsElementRead, Knows, all_done, none_begun, replayed_more}, Instructions.ByFate}}
 use Rattle.laws_refinement.proofs.{Attempting.{Event, Trying, StaysNow, event_at, inside_of}, InsideWords.words_stay, StayingOn.still_stays}
 use Rattle.laws_refinement.proofs.{OutsideEntries.{IsAtInstruction, MovesTo, outside_moves}, Phases.event_inside}
 use Rattle.machine_types.specs.PlainState as plain
-use Rattle.machine_types.specs.declared.lock.LockWord.TheVariants as locks
-use Rattle.machine_types.specs.declared.phase.Phase.TheVariants as phases
 
 -- ---- places that stay go on to stay
 
@@ -20,14 +18,11 @@ module _ (its : Event) where
 
   -- what the thread that moves may know
   stays_own : (v : ℕ) → IsOwnOrFinished w (next_free its.s) t v → IsOwnOrFinished later (next_free (event its.c its.s t)) t v
-  stays_own v k = (let on = turns.goes_on in omega (arith, k.0, on.grows), by_builder)
-    where
-      by_builder : (b : Builder) → later v ≡ Some b → b.thread ≡ t
-      by_builder b e = elim (same_or_not b.thread t) [ inl same ↦ same | inr other ↦ k.1 b (turns.goes_on.no_more v b other e) ]
+  stays_own v k = (let on = turns.goes_on in omega (arith, k.0, on.grows), λ b e. elim (same_or_not b.thread t) [ inl same ↦ same | inr other ↦ k.1 b (turns.goes_on.no_more v b other e) ])
 
 -- ---- the law
 
-runs_now : (phase now : Phase) → IsAtInstruction phase → IsAs phase now → now ≡ phases.Run
+runs_now : (phase now : Phase) → IsAtInstruction phase → IsAs phase now → now ≡ Run
 runs_now phase now (inl e) k = subst (λ (p : Phase). IsAs p now) e k
 runs_now phase now (inr e) k = subst (λ (p : Phase). IsAs p now) e k
 
@@ -71,9 +66,6 @@ module _ (fit : HeapWordsFit) (allowed : EffectsAreAllowed) (its : Event) (d : P
           ∙ (λ i. Some (let next : Alone = record { thread = record { frames = k.frames i; status = run i; roots = after.roots; ended = ended }; depth = depth i; begun = begun i } in next)),
     )
 
-    outside_owes : OwesAfter after.attempt d
-    outside_owes = begins_owing after.attempt (outside_moves c x got none x.phase refl)
-
   -- ---- in one
 
   module _ (a : Attempt) (tries : x.attempt ≡ Some a) (owes : Owes c own.stores objects w s t (was t) x (Some a) d) where
@@ -89,31 +81,22 @@ module _ (fit : HeapWordsFit) (allowed : EffectsAreAllowed) (its : Event) (d : P
     nothing_owed : (past : Past) → past.due ≡ [] → past.pending ≡ 0 → after.attempt ≡ None → OwesAfter after.attempt past
     nothing_owed past due pending none = subst (λ (o : Option Attempt). OwesAfter o past) (sym none) (record { due = due; pending = pending })
 
-    grown_owes : Grows c.program (StaysNow trying) s.words x a (was t) now x.phase after acts → OwesAfter after.attempt (past_by d x.phase acts GoesOn)
-    grown_owes g = subst (λ (o : Option Attempt). OwesAfter o (past_by d x.phase acts GoesOn)) (sym g.attempt) leads
-      where
-        leads : OwesAfter (Some (inner_as a g.inner)) (past_by d x.phase acts GoesOn)
-        leads = (
-          g.begun d.pending,
-          λ noted memory has ended.
-              let was_noted : IsAsNoted s.words a = subst (λ (words : List ℕ). slice_index words a.monitor ≡ word_of_lock (locks.Free a.noted)) same_words noted in
-              let knows : Knows (StaysNow trying) s.words memory = λ n k. subst (λ (words : List ℕ). memory n ≡ Some (slice_index words n)) same_words (has n ((still_stays its t (stays_own its) a.monitor) n k)) in
-              ap (replayed c.program a.monitor memory (d.due ++ acts)) (g.entry ended)
-              ∙ replayed_more c.program a.monitor memory d.due acts (at_entry x a ended) (at_present x a (was t) d.pending ended) (owes.1 was_noted memory knows ended)
-              ∙ g.replays memory knows d.pending owes.0 ended,
-        )
-
     by_fate : (f : Fate) → ByFate c.program (StaysNow trying) s.words x a (was t) now x.phase f after acts → OwesAfter after.attempt (past_by d x.phase acts f)
-    by_fate GoesOn k = grown_owes k
+    by_fate GoesOn g = subst (λ (o : Option Attempt). OwesAfter o (past_by d x.phase acts GoesOn)) (sym g.attempt) (
+      g.begun d.pending,
+      λ noted memory has ended.
+          let was_noted : IsAsNoted s.words a = subst (λ (words : List ℕ). slice_index words a.monitor ≡ word_of_lock (Free a.noted)) same_words noted in
+          let knows : Knows (StaysNow trying) s.words memory = λ n k. subst (λ (words : List ℕ). memory n ≡ Some (slice_index words n)) same_words (has n ((still_stays its t (stays_own its) a.monitor) n k)) in
+          ap (replayed c.program a.monitor memory (d.due ++ acts)) (g.entry ended)
+          ∙ replayed_more c.program a.monitor memory d.due acts (at_entry x a ended) (at_present x a (was t) d.pending ended) (owes.1 was_noted memory knows ended)
+          ∙ g.replays memory knows d.pending owes.0 ended,
+    )
     by_fate Fails k = nothing_owed (past_by d x.phase acts Fails) refl refl k
     by_fate Finishes k = nothing_owed (past_by d x.phase acts Finishes) refl refl k
 
-    inside_owes : OwesAfter after.attempt (past_after c x (Some a) got d)
-    inside_owes = by_fate (fate c x a x.phase got) (event_inside fit allowed trying now structured)
-
   by_attempt : (o : Option Attempt) → x.attempt ≡ o → Owes c own.stores objects w s t (was t) x o d → OwesAfter after.attempt (past_after c x o got d)
-  by_attempt None e k = outside_owes e k
-  by_attempt (Some a) e k = inside_owes a e k
+  by_attempt None e k = begins_owing e k after.attempt (outside_moves c x got e x.phase refl)
+  by_attempt (Some a) e k = by_fate a e k (fate c x a x.phase got) (event_inside fit allowed (record { mover = mover; a = a; tries = e }) now structured)
 
 pub own_keeps_attempt : HeapWordsFit → EffectsAreAllowed → OwnKeepsAttempt
 own_keeps_attempt fit allowed c cfg objects was frozen own own_after w later s t x d turns owes = by_attempt fit allowed (event_at c cfg objects was frozen own own_after w later s t x turns) d x.attempt refl owes

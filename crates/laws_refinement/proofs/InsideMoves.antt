@@ -4,9 +4,8 @@ use Rattle.std.proofs.Common.{◌≡◌, ℕ, zero, suc, ◌+◌, ◌<◌, nat_l
 use Rattle.checked_program.{specs.MarkedProgram.MarkedProgram, proofs.FilledTags.some_fewer}
 use Rattle.machine_types.specs.{Elision.{may_try, put_back, is_same, is_checked, fails, elided}, Events.{element_made, moved}, Frames.{Top, top_of, effect_at, went_on}}
 use Rattle.machine_types.specs.{Going.{with_phase, goes_on, goes_on_if, goes_after}, History.{Fate, GoesOn, Fails, Finishes, fate, fate_by, run_fate, leave_fate, with_begun}}
-use Rattle.machine_types.specs.{Instructions.{begun, did, instructed, ran}, Monitors.{Claim, finishes, enter_moves, leave_moves}}
-use Rattle.machine_types.specs.{Onward.{Onward, Running, dispatched, after, done}, Threads.{Attempt, Thread}, declared.effect.{Effect.Effect, Variable.TheVariants.Static}}
-use Rattle.machine_types.specs.declared.{effect.Effect.TheVariants.{Reads}, phase.{After.After, Phase.Phase}}
+use Rattle.machine_types.specs.{Instructions.{begun, did, instructed, ran}, Monitors.{Claim, finishes, enter_moves, leave_moves}, Onward.{Onward, Running, dispatched, after, done}}
+use Rattle.machine_types.specs.{Threads.{Attempt, Thread}, declared.{effect.{Effect.{Effect, TheVariants.Reads}, Variable.TheVariants.Static}, phase.{After.After, Phase.Phase}}}
 use Rattle.laws_threads.specs.{EntryFrames.{KeepsEntry, StepsKeepEntry, ThrowsKeepEntry, LeavesKeepEntry}, InsideEffects.MayDo}
 use Rattle.laws_refinement.proofs.{Checks.{checked, did_by, instructed_by}, Inside.{Inside, KnownInside}}
 use Rattle.machine_types.specs.declared.phase.Phase.TheVariants as phases
@@ -141,14 +140,6 @@ module _ (steps : StepsKeepEntry) (throws : ThrowsKeepEntry) (leaves : LeavesKee
       (goes_inside c x a (phases.Leave n e) z (goes_after c.program z e) b (record { held = refl; roots = refl; part = refl; prints = refl; begun = refl; done = refl }) refl refl refl refl
       (went_if b z (after c.program x.frames e) based (λ onward is. leaves c.program x.frames b e onward is)))
 
-  -- an entry
-  enters_inside : (n number : ℕ) → Moves c x (goes_on (record x { attempt = Some (record a { inner = a.inner + 1 }) }) (Running x.frames)) a (phases.Enter n number) GoesOn
-  enters_inside n number =
-      let b : Attempt = record a { inner = a.inner + 1 } in
-      let z : Thread = record x { attempt = Some b } in
-      goes_inside c x a (phases.Enter n number) z (goes_on z (Running x.frames)) b (record { held = refl; roots = refl; part = refl; prints = refl; begun = refl; done = refl }) refl refl refl refl
-      (went b z (Running x.frames) based (λ k l. refl))
-
   moves_at : (phase : Phase) → KnownInside c x a phase → Moves c x (moved c x phase got) a phase (fate c x a phase got)
   moves_at phases.Run k = subst (λ (o : Option Top). Moves c x (ran c.program x o got) a phases.Run (run_fate c a o got)) (sym k.found) (instructed_inside k.at (effect_at c.program k.at) k.found k.may)
   moves_at (phases.Element word stored) k =
@@ -166,7 +157,11 @@ module _ (steps : StepsKeepEntry) (throws : ThrowsKeepEntry) (leaves : LeavesKee
       (goes_inside c x a phase x (goes_on_if x (dispatched c.program r class x.frames)) a (same_keeps x) tried refl refl refl
       (went_if a x (dispatched c.program r class x.frames) based (λ onward is. throws c.program x.frames a r class onward is)))
       (fails_inside c x a phase x (same_keeps x) refl)
-  moves_at (phases.Enter n number) k = subst (λ (claim : Claim). Moves c x (enter_moves x n number (may_try c x number) claim got) a (phases.Enter n number) GoesOn) (sym k) (enters_inside n number)
+  moves_at (phases.Enter n number) k = subst (λ (claim : Claim). Moves c x (enter_moves x n number (may_try c x number) claim got) a (phases.Enter n number) GoesOn) (sym k)
+      (let b : Attempt = record a { inner = a.inner + 1 } in
+      let z : Thread = record x { attempt = Some b } in
+      goes_inside c x a (phases.Enter n number) z (goes_on z (Running x.frames)) b (record { held = refl; roots = refl; part = refl; prints = refl; begun = refl; done = refl }) refl refl refl refl
+      (went b z (Running x.frames) based (λ k l. refl)))
   moves_at (phases.Leave n e) k = subst (λ (claim : Claim). Moves c x (leave_moves c.program x n e claim got) a (phases.Leave n e) (leave_fate claim got)) (sym k) (finishes_inside n e a.inner)
   moves_at (phases.Ending e) k = goes_inside c x a (phases.Ending e) x (with_phase x (phases.Ended e)) a (same_keeps x) tried refl refl refl
       (record { keeps = record { held = refl; roots = refl; part = refl; prints = refl; begun = refl; done = refl }; attempt = refl; frames = λ l. refl })

@@ -1,20 +1,18 @@
 -- An instruction inside an attempt is one more act of the replay, which finds in every memory that has the places that stay what the
 -- thread found.
-use Rattle.std.proofs.Common.{◌≡◌, ◌⊎◌, inl, inr, ℕ, suc, ◌+◌, ◌-◌, ◌<◌, nat_lt, Bool, true, false, List, [], ◌∷◌, Option, Some, None, refl, sym, ap, ◌∙◌, subst, arith, IsSome, slice_get, slice_index, option_map, option_and_then, if◌then◌else◌}
+use Rattle.std.proofs.Common.{◌≡◌, ◌⊎◌, inl, inr, ℕ, suc, ◌+◌, ◌-◌, nat_lt, Bool, true, false, List, [], ◌∷◌, Option, Some, None, refl, sym, ap, ◌∙◌, subst, arith, IsSome, slice_get, slice_index, option_map, option_and_then, if◌then◌else◌}
 use Rattle.jvm_types.specs.declared.{outcome.{End.End, Thrown.{Thrown, TheVariants.ArrayIndexOutOfBoundsException}}, program.{MethodInfo.MethodInfo, Program.Program}}
-use Rattle.machine_types.specs.{Accesses.found_by, Attempts.{IsReadBegun}, Effects.read_by, Events.wanted}
-use Rattle.machine_types.specs.{FoundWords.{WordFits, effect_content, run_content, content_at}, Frames.{Top, frames_of, top_of, effect_at, went, went_on}, Going.{goes_on, goes_on_if, with_phase}}
-use Rattle.machine_types.specs.{History.{Fate, GoesOn, Fails, Finishes, run_fate, instruction_acts, run_acts}, Instructions.{effect_wants, run_wants, begun, did, ran}}
-use Rattle.machine_types.specs.{Ints.low, Lawful.within, Onward.{Onward, Running, Throwing, Entering, Leaving, threw, called, returns, done}, PlainInstructions.got_by}
-use Rattle.machine_types.specs.{ReadyObjects.thrown_of, Replay.{Alone, only_on, reads_only, goes, instructs, replay_act, begun_and_done, status_inside, at_present}}
-use Rattle.machine_types.specs.{Structure.{IsAs, IsStructured, Stands, AttemptStands}, Threads.{Attempt, Thread}, Typed.{FramesHold, PhaseHolds, HasClass}}
-use Rattle.machine_types.specs.{Words.{header_class, header_length, header_word, value_word, variable_word}, declared.{effect.Effect.Effect}}
-use Rattle.machine_types.specs.declared.effect.Effect.TheVariants.{Goes, Throws, Reads, Indexes, Measures, Raises, Calls, Returns, Enters, Leaves, Stuck}
-use Rattle.machine_types.specs.declared.{phase.Phase.Phase, plain.Act.Act}
+use Rattle.machine_types.specs.{Accesses.found_by, Attempts.IsReadBegun, Effects.read_by, Events.wanted, FoundWords.{WordFits, effect_content, run_content, content_at}}
+use Rattle.machine_types.specs.{Frames.{Top, frames_of, top_of, effect_at, went, went_on}, Going.{goes_on, goes_on_if, with_phase}}
+use Rattle.machine_types.specs.{History.{Fate, GoesOn, Fails, Finishes, run_fate, instruction_acts, run_acts}, Instructions.{effect_wants, run_wants, begun, did, ran}, Ints.low, Lawful.within}
+use Rattle.machine_types.specs.{Onward.{Onward, Running, Throwing, Entering, Leaving, threw, called, returns, done}, PlainInstructions.got_by, ReadyObjects.thrown_of}
+use Rattle.machine_types.specs.{Replay.{Alone, only_on, reads_only, goes, instructs, replay_act, begun_and_done, status_inside, at_present}, Structure.{IsAs, IsStructured, Stands, AttemptStands}}
+use Rattle.machine_types.specs.{Threads.{Attempt, Thread}, Typed.{FramesHold, PhaseHolds, HasClass}, Words.{header_class, header_length, header_word, value_word, variable_word}}
+use Rattle.machine_types.specs.declared.{effect.Effect.{Effect, TheVariants.{Goes, Throws, Reads, Indexes, Measures, Raises, Calls, Returns, Enters, Leaves, Stuck}}, phase.Phase.Phase, plain.Act.Act}
 use Rattle.laws_threads.{specs.{Allowed.Allowed, InsideEffects.MayDo, TopFrames.{IsAllowed, EffectsAreAllowed}}, proofs.{EntryKept.steps_kept, Inside.inside_may}}
 use Rattle.laws_states.{specs.{FoundLaws.{IsOfHeap, HeapWordsFit}}}
 use Rattle.laws_simulation.proofs.{FrameEffects.is_some_thrown}
-use Rattle.laws_refinement.proofs.{Checks.instructed_by, Attempting.{Trying, StaysNow, attempt_as, stands_as, frames_as, holds_as}, GoingOn.{Grows, GoesAlike, Knows, comes_there, going_alike, grown}, StayPlaces.{TopReads, top_reads, variable_stays, header_stays}}
+use Rattle.laws_refinement.proofs.{Checks.instructed_by, Attempting.{Trying, StaysNow, attempt_as, stands_as, frames_as, holds_as}, GoingOn.{Grows, GoesAlike, Knows, comes_there, going_alike, grown}, StayPlaces.{top_reads, variable_stays, header_stays}}
 use Rattle.machine_types.specs.PlainState as plain
 use Rattle.machine_types.specs.declared.phase.After.TheVariants as afters
 use Rattle.machine_types.specs.declared.phase.Phase.TheVariants as phases
@@ -64,9 +62,6 @@ module _ (fit : HeapWordsFit) (allowed : EffectsAreAllowed) (trying : Trying) (r
   attempt_stands : AttemptStands c phases.Run x.frames x.held a
   attempt_stands = attempt_as trying phases.Run counted
 
-  marks : TopReads c a.monitor at
-  marks = top_reads c x.frames x.held a at marked attempt_stands stands at_top
-
   top : agreement.MayDo c objects at
   top = agreement.may_do c objects s x.frames at marked facts.heap (holds_as trying phases.Run runs) at_top
 
@@ -80,14 +75,11 @@ module _ (fit : HeapWordsFit) (allowed : EffectsAreAllowed) (trying : Trying) (r
       subst (IsAllowed c.program at) f (allowed c x.frames at marked frames at_top)
 
   -- what is found fits
-  fits_phase : (now : Phase) → x.phase ≡ now → IsOfHeap (content_at c x now) → WordFits c.program (content_at c x now) (found_by s.words (wanted c x now))
-  fits_phase now e = subst (λ (phase : Phase). IsOfHeap (content_at c x phase) → WordFits c.program (content_at c x phase) (found_by s.words (wanted c x phase))) e (fit c objects s t x marked facts.heap here (facts.threads.lawful t x here))
-
-  fits_top : IsOfHeap (effect_content c.program at.target (effect_at c.program at)) → WordFits c.program (effect_content c.program at.target (effect_at c.program at)) (found_by s.words (effect_wants x at.frame.pc (effect_at c.program at)))
-  fits_top = subst (λ (o : Option Top). IsOfHeap (run_content c.program o) → WordFits c.program (run_content c.program o) (found_by s.words (run_wants c.program x o))) at_top (fits_phase phases.Run runs)
-
   raised : (v : ℕ) → effect_at c.program at ≡ Raises v → IsSome (thrown_of (header_class (slice_index s.words (header_word v))))
-  raised v f = (subst (λ (e : Effect). IsOfHeap (effect_content c.program at.target e) → WordFits c.program (effect_content c.program at.target e) (found_by s.words (effect_wants x at.frame.pc e))) f fits_top tt).1
+  raised v f =
+      let of_phase = subst (λ (phase : Phase). IsOfHeap (content_at c x phase) → WordFits c.program (content_at c x phase) (found_by s.words (wanted c x phase))) runs (fit c objects s t x marked facts.heap here (facts.threads.lawful t x here)) in
+      let of_top = subst (λ (o : Option Top). IsOfHeap (run_content c.program o) → WordFits c.program (run_content c.program o) (found_by s.words (run_wants c.program x o))) at_top of_phase in
+      (subst (λ (e : Effect). IsOfHeap (effect_content c.program at.target e) → WordFits c.program (effect_content c.program at.target e) (found_by s.words (effect_wants x at.frame.pc e))) f of_top tt).1
 
   -- ---- by its effect
 
@@ -151,7 +143,7 @@ module _ (fit : HeapWordsFit) (allowed : EffectsAreAllowed) (trying : Trying) (r
   does (Reads v) f k =
       let named = does_at (Reads v) f in
       loads (Reads v) (variable_word v) (Running (went_on c.program at (slice_index s.words (variable_word v))))
-      (variable_stays trying (frames_as trying phases.Run counted) at at_top v named.1 marks f k named.2) refl refl refl (λ memory. refl) (λ memory. refl)
+      (variable_stays trying (frames_as trying phases.Run counted) at at_top v named.1 (top_reads c x.frames x.held a at marked attempt_stands stands at_top) f k named.2) refl refl refl (λ memory. refl) (λ memory. refl)
   does (Measures v) f k =
       loads (Measures v) (header_word v) (Running (went_on c.program at (header_length (slice_index s.words (header_word v)))))
       (header_stays trying (frames_as trying phases.Run counted) at at_top _ v (does_at (Measures v) f).1) refl refl refl (λ memory. refl) (λ memory. refl)
@@ -215,31 +207,16 @@ module _ (fit : HeapWordsFit) (allowed : EffectsAreAllowed) (trying : Trying) (r
       inner = a.inner;
       attempt = tries;
       entry = λ ended. refl;
-      begun = λ n. subst (λ (phase : Phase). IsReadBegun phase (n + 1)) (sym k.is_as) (some_more n);
+      begun = λ n. subst (λ (phase : Phase). IsReadBegun phase (n + 1)) (sym k.is_as) (omega arith);
       replays = λ memory knows n some ended. (
           let status : status_inside (was t) ≡ status_inside now = ap status_inside counted
           ∙ ap status_inside (sym k.is_as) in
+          let one : n ≡ n + 1 - 1 = omega arith in
           let same : begun_and_done (was t) n ≡ begun_and_done now (n + 1) =
-          ap (λ (phase : Phase). begun_and_done phase n) counted ∙ one_less n
+          ap (λ (phase : Phase). begun_and_done phase n) counted ∙ one
           ∙ ap (λ (phase : Phase). begun_and_done phase (n + 1)) (sym k.is_as) in
-          (λ i. Some (let next : Alone = record {
-            thread = record {
-              frames = x.frames;
-              status = status i;
-              roots = x.roots;
-              ended =
-                  ended;
-            };
-            depth = suc a.inner;
-            begun = same i;
-          } in next)));
+          (λ i. Some (let next : Alone = record { thread = record { frames = x.frames; status = status i; roots = x.roots; ended = ended }; depth = suc a.inner; begun = same i } in next)));
     }
-      where
-        some_more : (n : ℕ) → 0 < n + 1
-        some_more n = omega arith
-
-        one_less : (n : ℕ) → n ≡ n + 1 - 1
-        one_less n = omega arith
 
     grows_by : (d : DoesSo its) → IsStructured c now (did c.program (begun x) at its got)
         → GrowsTo (did c.program (begun x) at its got) (instruction_acts x its got)
@@ -252,16 +229,10 @@ module _ (fit : HeapWordsFit) (allowed : EffectsAreAllowed) (trying : Trying) (r
         (subst (λ (act : List Act). GrowsTo (with_phase (begun x) (phases.Element d.word None)) act)
         (sym d.act) (comes d.word (subst (IsStructured c now) d.moves k)))
 
-    did_grow : IsStructured c now (did c.program (begun x) at its got)
-        → GrowsTo (did c.program (begun x) at its got) (instruction_acts x its got)
-    did_grow = grows_by (does its refl (subst (MayDo c a.monitor at) refl (inside_may c x.frames x.held a at marked attempt_stands stands at_top)))
-
-    abbrev By : Fate → Thread → Type 0
-    By fate y = ByFate c.program Keeps s.words x a (was t) now phases.Run fate y (instruction_acts x its got)
-
     abbrev RunsBy : Option Top → Type 0
     RunsBy o = IsStructured c now (ran c.program x o (found_by s.words (run_wants c.program x o)))
         → ByFate c.program Keeps s.words x a (was t) now phases.Run (run_fate c a o (found_by s.words (run_wants c.program x o))) (ran c.program x o (found_by s.words (run_wants c.program x o))) (run_acts c x o (found_by s.words (run_wants c.program x o)))
 
     pub runs_by_fate : RunsBy (top_of c.program x.frames)
-    runs_by_fate = subst RunsBy (sym at_top) (instructed_by (λ y fate. IsStructured c now y → By fate y) c.program a (begun x) at its got tries did_grow (λ k. refl))
+    runs_by_fate = subst RunsBy (sym at_top) (instructed_by (λ y fate. IsStructured c now y → ByFate c.program Keeps s.words x a (was t) now phases.Run fate y (instruction_acts x its got)) c.program a (begun x) at its got tries
+        (grows_by (does its refl (inside_may c x.frames x.held a at marked attempt_stands stands at_top))) (λ k. refl))

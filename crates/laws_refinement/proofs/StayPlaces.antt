@@ -2,9 +2,9 @@
 use Rattle.std.proofs.Common.{◌≡◌, ◌⊎◌, inl, inr, ℕ, ◌<◌, Bool, true, false, not, List, [], ◌∷◌, length, Option, Some, None, refl, sym, ap, ◌∙◌, subst, arith, ◌==◌, slice_get, slice_index, if◌then◌else◌}
 use Rattle.std.proofs.lemmas.Bool.{cases_Bool, or_parts, Decides.nat_tests}
 use Rattle.lists.proofs.{ListLaws.same_some, TestLaws.is_true}
-use Rattle.jvm_types.specs.{ClassNames.file_of_class, CodeTable.get_row, Members.is_static, ProgramInvariant.{IsProgram, site_in}, Types.{TypeFrame, is_below}}
-use Rattle.jvm_types.specs.{Verifying.{suits, some_taken, some_read, mistypes}, declared.{code.{Insn.Insn, Op.Op}, fixed_words.TheConstants.NEXT_FREE_WORD, op_row.OpRow.OpRow, program.FieldInfo.FieldInfo}}
-use Rattle.jvm_types.specs.declared.{program.{MethodInfo.MethodInfo, Program.Program, Target.Target}, typing.VType.VType}
+use Rattle.jvm_types.specs.{ClassNames.file_of_class, CodeTable.get_row, Members.is_static, ProgramInvariant.site_in, Types.{TypeFrame, is_below}, Verifying.{suits, some_taken, some_read, mistypes}}
+use Rattle.jvm_types.specs.declared.{code.{Insn.Insn, Op.{Op, TheVariants.{Getfield, Iaload}}}, fixed_words.TheConstants.NEXT_FREE_WORD, op_row.OpRow.OpRow}
+use Rattle.jvm_types.specs.declared.{outcome.Thrown.TheVariants.NullPointerException, program.{FieldInfo.FieldInfo, MethodInfo.MethodInfo, Program.Program, Target.Target}, typing.VType.VType}
 use Rattle.laws_programs.{specs.TargetLaws.HasRow, proofs.ClassTreeLaws.files_alone}
 use Rattle.checked_program.specs.{FrozenPlaces.{IsFrozenStatic, IsGuardedStatic}, LockTags.TagShape, MarkedProgram.{MarkedProgram, IsMarked}, OwnedArrays.IsOwnedAt, SectionLaws.ReadsOnly, declared.section.Mode.Mode}
 use Rattle.checked_program.specs.declared.{section.Mode.TheVariants.OnThis, tag.Tag.Tag}
@@ -17,10 +17,7 @@ use Rattle.laws_threads.{specs.InsideEffects.{IsStayingStatic, MayRead, TakesOwn
 use Rattle.laws_threads.proofs.{SectionFrames.{on_object, reads, row_stands}, Standings.{one_insn, top_here, top_at_standing}}
 use Rattle.laws_states.{proofs.Lists.contained_got}
 use Rattle.laws_objects.proofs.ColouredFrames.{coloured_class, coloured_instance}
-use Rattle.laws_refinement.{specs.ElidedSteps.next_free, proofs.Attempting.Trying}
-use Rattle.laws_refinement.proofs.ReadPlaces.{MayStay, GetsField, gets_field, IsOwnIn, own_in_all, of_object, slot}
-use Rattle.jvm_types.specs.declared.code.Op.TheVariants as ops
-use Rattle.jvm_types.specs.declared.outcome.Thrown.TheVariants as thrown
+use Rattle.laws_refinement.{specs.ElidedSteps.next_free, proofs.{Attempting.Trying, ReadPlaces.{MayStay, GetsField, gets_field, IsOwnIn, own_in_all, of_object, slot}}}
 use Rattle.jvm_types.specs.declared.program.Target.TheVariants as targets
 use Rattle.jvm_types.specs.declared.typing.VType.TheVariants as types
 use Rattle.machine_types.specs.Attempts as attempts
@@ -119,8 +116,8 @@ second Is On (first ∷ []) (g ∷ []) i a rest are on = absurd are.1
 second Is On [] [] i a rest are on = absurd are
 second Is On ts gs i a rest are on = absurd (assumption)
 
-element_reads : (op : Op) → is_element_op None op ≡ true → op ≡ ops.Iaload
-element_reads ops.Iaload e = refl
+element_reads : (op : Op) → is_element_op None op ≡ true → op ≡ Iaload
+element_reads Iaload e = refl
 element_reads op e = absurd (let bad : false ≡ true = e in cc)
 
 module _ (c : MarkedProgram) (frozen : ℕ → Bool) (own : Owning) (now : World) (next t : ℕ)
@@ -132,7 +129,7 @@ module _ (c : MarkedProgram) (frozen : ℕ → Bool) (own : Owning) (now : World
       → (l : Standing c f) → TopArray c own.stores objects word (top_here c f below l)
   by_stack f below (i ∷ a ∷ rest) is keep holds top has on l =
       let k = keep.0.stands in
-      let op : k.insn.op ≡ ops.Iaload = element_reads k.insn.op
+      let op : k.insn.op ≡ Iaload = element_reads k.insn.op
       (ap (λ (insn : Insn). is_element_op None insn.op) (one_insn c marked f k top.0) ∙ top.1)
       in
       let are : SlotsAre (SlotOf frozen now next t (length below) Runs k.method f.receiver)
@@ -182,12 +179,12 @@ pub record ReadObject (p : Program) (field : FieldInfo) (stack : List ℕ) (v : 
 
 read_by_gets : (p : Program) (field : FieldInfo) (stack : List ℕ) (v : Variable) → gets (Some field) stack ≡ Reads v → ReadObject p field stack v
 read_by_gets p field [] v e = absurd (cc)
-read_by_gets p field (value ∷ rest) v e = (elim (value == 0) as (λ (b : Bool). (value == 0) ≡ b → (if b then Throws thrown.NullPointerException else Reads (variable_of field value)) ≡ Reads v → ReadObject p field (value ∷ rest) v)
+read_by_gets p field (value ∷ rest) v e = (elim (value == 0) as (λ (b : Bool). (value == 0) ≡ b → (if b then Throws NullPointerException else Reads (variable_of field value)) ≡ Reads v → ReadObject p field (value ∷ rest) v)
     [ true ↦ λ g f. absurd (cc) | false ↦ λ g f. record { value = value; rest = rest; top = refl; some = grind (arith, nat_tests, g); variable = cc } ]) refl e
 
-read_object : (p : Program) (at : Top) (number i : ℕ) (field : FieldInfo) (v : Variable) → at.target ≡ targets.Field number → at.insn.op ≡ ops.Getfield i → slice_get p.fields number ≡ Some field → effect_at p at ≡ Reads v → ReadObject p field at.frame.stack v
+read_object : (p : Program) (at : Top) (number i : ℕ) (field : FieldInfo) (v : Variable) → at.target ≡ targets.Field number → at.insn.op ≡ Getfield i → slice_get p.fields number ≡ Some field → effect_at p at ≡ Reads v → ReadObject p field at.frame.stack v
 read_object p at number i field v target op is e =
-    let named : effect p at.insn.next (targets.Field number) (ops.Getfield i) at.frame.locals at.frame.stack ≡ Reads v
+    let named : effect p at.insn.next (targets.Field number) (Getfield i) at.frame.locals at.frame.stack ≡ Reads v
     = subst (λ (q : Op). effect p at.insn.next (targets.Field number) q at.frame.locals at.frame.stack ≡ Reads v) op (subst (λ (q : Target). effect p at.insn.next q at.insn.op at.frame.locals at.frame.stack ≡ Reads v) target e) in
     read_by_gets p field at.frame.stack v (subst (λ (o : Option FieldInfo). gets o at.frame.stack ≡ Reads v) is named)
 
@@ -218,18 +215,11 @@ module _ (trying : Trying) (frames_keep : FramesKeep trying.c trying.frozen tryi
   known v (inr k) = own_in_all keeps.now w t x.attempt next v keeps.now_is k.0 (inl k.1)
 
   -- the object on top of the stack, where a field of it is read
-  whole_stack : puts_owned own.owned at.insn.op at.target ≡ false
-      → SlotsAre (SlotOf frozen keeps.now next t slots.height Runs at.method at.frame.receiver)
-      slots.types.stack slots.tags.stack at.frame.stack
-  whole_stack puts = subst (λ (b : Bool). StackWith
-      (SlotOf frozen keeps.now next t slots.height Runs at.method at.frame.receiver)
-      (λ v. keeps.now v ≡ Some (builder t slots.height Unstored)) b slots.types.stack
-      slots.tags.stack at.frame.stack) puts slots.stack
-
   top_known : (field : FieldInfo) (v : ℕ) (rest : List ℕ) → puts_owned own.owned at.insn.op at.target ≡ false → top_row c.program at ≡ get_row (Some field) → at.frame.stack ≡ v ∷ rest → 0 < v → IsOwnOrFinished w next t v
   top_known field v rest puts row top some =
       let first = first_slot (SlotOf frozen keeps.now next t slots.height Runs at.method at.frame.receiver) slots.types.stack slots.tags.stack v rest
-      (subst (λ (vs : List ℕ). SlotsAre (SlotOf frozen keeps.now next t slots.height Runs at.method at.frame.receiver) slots.types.stack slots.tags.stack vs) top (whole_stack puts)) in
+      (subst (λ (vs : List ℕ). SlotsAre (SlotOf frozen keeps.now next t slots.height Runs at.method at.frame.receiver) slots.types.stack slots.tags.stack vs) top
+      (subst (λ (b : Bool). StackWith (SlotOf frozen keeps.now next t slots.height Runs at.method at.frame.receiver) (λ v. keeps.now v ≡ Some (builder t slots.height Unstored)) b slots.types.stack slots.tags.stack at.frame.stack) puts slots.stack)) in
       let below = top_suits at.method (top_row c.program at) field slots.types first.type first.more row first.first slots.suit in
       known v (slot (IsFinished keeps.now next) (IsFresh keeps.now t slots.height Runs) (makes_frozen frozen at.method) at.frame.receiver v some (builds frozen at.method) first.type first.tag (of_object first.type field.class below) first.is)
 
@@ -262,9 +252,6 @@ module _ (trying : Trying) (frames_keep : FramesKeep trying.c trying.frozen tryi
       holder : allowed.IsOf (HasClass objects) f.class named.reference
       holder = named.holder instance
 
-      program : IsProgram c.program
-      program = marked.checked.program
-
       abbrev object : Object
       object = holder.2.0
 
@@ -275,7 +262,7 @@ module _ (trying : Trying) (frames_keep : FramesKeep trying.c trying.frozen tryi
           cc
 
       of_class : object.class ≡ names.field.class
-      of_class = holder.2.3 ∙ files_alone holder.1 f.class (program.fields named.number f named.there).class.0 holder.3 ∙ ap (λ (g : FieldInfo). g.class) (same_some (sym named.there ∙ names.is))
+      of_class = holder.2.3 ∙ files_alone holder.1 f.class (marked.checked.program.fields named.number f named.there).class.0 holder.3 ∙ ap (λ (g : FieldInfo). g.class) (same_some (sym named.there ∙ names.is))
 
       field_at : IsFieldAt c objects w next t named.number (variable_word v) object
       field_at = record {
@@ -291,15 +278,12 @@ module _ (trying : Trying) (frames_keep : FramesKeep trying.c trying.frozen tryi
       by_stay (inl k) = attempts.frozen named.number object k field_at
       by_stay (inr k) = attempts.guarded named.number object k.0 (is_object ∙ sym (ap (λ (vs : List ℕ). slice_index vs 0) read.top) ∙ k.2 ∙ marks.on k.1) field_at
 
-      field_stays : Stays c own.stores objects w next t a.monitor (variable_word v)
-      field_stays = by_stay names.stays
-
     pub variable_stays : Stays c own.stores objects w next t a.monitor (variable_word v)
     variable_stays = elim (cases_Bool (is_static f.flags)) [
       | inl sort ↦
           let static : v ≡ Static f.index = named.variable ∙ ap (λ (b : Bool). if b then Static f.index else Instance named.reference f.index) sort in
           subst (λ (u : Variable). Stays c own.stores objects w next t a.monitor (variable_word u)) (sym static) (static_stays f.index (subst (MayRead c a.monitor) static may))
-      | inr sort ↦ field_stays sort
+      | inr sort ↦ by_stay sort (names sort).stays
     ]
 
   -- the header of an object
