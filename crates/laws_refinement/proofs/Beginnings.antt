@@ -4,10 +4,9 @@ use Rattle.std.proofs.Common.{◌≡◌, ℕ, zero, suc, ◌+◌, ◌*◌, ◌/�
 use Rattle.std.proofs.lemmas.Bool.{lt-ltb, ltb-true}
 use Rattle.lists.proofs.{ListLaws.same_some, TestLaws.{both_true, both_are_true}}
 use Rattle.checked_program.specs.MarkedProgram.{MarkedProgram, IsMarked}
-use Rattle.machine_types.specs.{Accesses.found_by, Core.{Core, Happening, core}, Elision.{begins, tries, may_try, enters_marked}, Events.{wanted, moved}, Going.with_phase}
-use Rattle.machine_types.specs.{HeldMonitors.held_at, History.{Fate, GoesOn, Fails, Finishes, fate}, LockWords.{word_of_lock, lock_by, lock_of}}
-use Rattle.machine_types.specs.{Monitors.{Claim, HasNot, claim, claim_by, enter_wants, enter_moves}, Settings.AreSettings, Threads.{Attempt, Frame, Thread}, declared.access.Access.TheVariants.Load}
-use Rattle.machine_types.specs.declared.{config.Config.Config, lock.Held.Held, phase.Phase.Phase}
+use Rattle.machine_types.specs.{Accesses.found_by, Core.{Core, Happening, core}, Elision.{begins, tries, may_try, enters_marked}, Events.{wanted, moved}, Going.with_phase, HeldMonitors.held_at}
+use Rattle.machine_types.specs.{History.{Fate, GoesOn, Fails, Finishes, fate}, LockWords.{word_of_lock, lock_by, lock_of}, Monitors.{Claim, HasNot, claim, claim_by, enter_wants, enter_moves}}
+use Rattle.machine_types.specs.{Settings.AreSettings, Threads.{Attempt, Frame, Thread}, declared.{access.Access.TheVariants.Load, config.Config.Config, lock.Held.Held, phase.Phase.Phase}}
 use Rattle.laws_threads.specs.{InsideEffects.InsideMayDo, InsideMoves.ElementsInside}
 use Rattle.laws_states.{specs.{RunFacts.HaveWidth, StateLaws.{ProgramsKeepThreads, RunsHaveState, IsInState}}, proofs.WordViews.lock_of_word}
 use Rattle.laws_objects.proofs.ThrownInits.{moved_is}

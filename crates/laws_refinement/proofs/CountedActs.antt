@@ -4,11 +4,10 @@ use Rattle.lists.proofs.ListLaws.{same_some}
 use Rattle.jvm_types.specs.declared.program.Program.{Program}
 use Rattle.machine_types.specs.{Counting.{is_free, one_if, run_at, take_at}, Effects.read_by, Frames.{Top, top_of, effect_at}, Onward.{Onward, after, dispatched}, PlainInstructions.got_by}
 use Rattle.machine_types.specs.{PlainState.{Plain, Holding, Status, value_at, holding_at}, PlainSteps.{plain_run, plain_step}}
-use Rattle.machine_types.specs.{Replay.{Alone, only_on, reads_only, goes, instructs, enters, leaves, replay_act, replayed}, declared.{phase.After.After, plain.{Act.Act, PlainStep.PlainStep}}}
-use Rattle.machine_types.proofs.AttemptReplay.{stands_as, Stands, played}
+use Rattle.machine_types.specs.{Replay.{Alone, only_on, reads_only, goes, instructs, enters, leaves, replay_act, replayed}, declared.{phase.After.After, plain.Act.Act}}
+use Rattle.machine_types.{specs.declared.plain.{Act.TheVariants.{Do, Enter, Exit}, PlainStep.PlainStep}, proofs.AttemptReplay.{stands_as, Stands, played}}
 use Rattle.laws_simulation.proofs.PlainCounts.{did_run, did_throw, did_enter, not_run, not_taken}
 use Rattle.machine_types.specs.PlainState as plain
-use Rattle.machine_types.specs.declared.plain.Act.TheVariants as acts
 
 -- ---- instructions that an act begins
 
@@ -38,20 +37,20 @@ if_leaves_begun p x z a depth true e = leaves_begun p x z a depth e
 if_leaves_begun p x z a depth false e = absurd (cc)
 
 runs_by : (p : Program) (q : Plain) (t m : ℕ) (x z : Alone) (act : Act) (status : Status) → Stands q t m x → x.thread.status ≡ status → replay_act p m (value_at q) x act status ≡ Some z → run_at t q (step_by t act) + x.begun ≡ z.begun
-runs_by p q t m x z acts.Do plain.Run f s e =
+runs_by p q t m x z Do plain.Run f s e =
     let one = did_run t q x.thread f.thread s in
     let more = instructs_begun p m (value_at q) x z (top_of p x.thread.frames) e in
     omega (arith, one, more)
-runs_by p q t m x z acts.Do (plain.Throw r class) f s e =
+runs_by p q t m x z Do (plain.Throw r class) f s e =
     let none = did_throw t q x.thread r class f.thread s in
     let same = goes_begun x z (option_and_then (only_on m) (dispatched p r class x.thread.frames)) e in
     omega (arith, none, same)
-runs_by p q t m x z acts.Enter (plain.Enter n) f s e =
-    let none = not_run t q acts.Enter refl in
+runs_by p q t m x z Enter (plain.Enter n) f s e =
+    let none = not_run t q Enter refl in
     let same = enters_begun x z (n == m) e in
     omega (arith, none, same)
-runs_by p q t m x z acts.Exit (plain.Leave n a) f s e =
-    let none = not_run t q acts.Exit refl in
+runs_by p q t m x z Exit (plain.Leave n a) f s e =
+    let none = not_run t q Exit refl in
     let same = if_leaves_begun p x z a x.depth (n == m) e in
     omega (arith, none, same)
 runs_by p q t m x z act status f s e = absurd (cc)
@@ -64,9 +63,9 @@ held_already q t m n x z true k f e = ap (λ (i : ℕ). one_if (is_free (holding
 held_already q t m n x z false k f e = absurd (cc)
 
 takes_by : (p : Program) (q : Plain) (t m : ℕ) (x z : Alone) (act : Act) (status : Status) → Stands q t m x → x.thread.status ≡ status → replay_act p m (value_at q) x act status ≡ Some z → take_at t q (step_by t act) ≡ 0
-takes_by p q t m x z acts.Do status f s e = not_taken t q acts.Do refl
-takes_by p q t m x z acts.Enter (plain.Enter n) f s e = did_enter t n q x.thread f.thread s ∙ held_already q t m n x z (n == m) refl f e
-takes_by p q t m x z acts.Exit status f s e = not_taken t q acts.Exit refl
+takes_by p q t m x z Do status f s e = not_taken t q Do refl
+takes_by p q t m x z Enter (plain.Enter n) f s e = did_enter t n q x.thread f.thread s ∙ held_already q t m n x z (n == m) refl f e
+takes_by p q t m x z Exit status f s e = not_taken t q Exit refl
 takes_by p q t m x z act status f s e = absurd (cc)
 
 -- ---- the act

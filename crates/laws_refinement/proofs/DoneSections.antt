@@ -5,9 +5,8 @@ use Rattle.checked_program.specs.MarkedProgram.{MarkedProgram}
 use Rattle.machine_types.specs.{Accesses.{found_by, words_after}, Attempts.IsAsNoted, Core.{Core, event, event_of}, Elision.{elided, fails, is_checked, is_same}, Events.{wanted, moved}}
 use Rattle.machine_types.specs.{Frames.{Top, top_of, effect_at}, Going.{goes_after, goes_on, goes_on_if}, HeldMonitors.held_at, History.{GoesOn, Finishes, fate, fate_by, leave_fate, run_fate}}
 use Rattle.machine_types.specs.{LockWords.word_of_lock, Monitors.{Claim, HasNot, Tries, claim, claim_by, finish_wants, finishes, leave_moves, leave_wants}, Onward.{Onward, after}}
-use Rattle.machine_types.specs.{Threads.{Attempt, Thread}, declared.{access.Access.TheVariants.Load, lock.Held.Held, phase.{After.After, Phase.Phase}}}
+use Rattle.machine_types.specs.{Threads.{Attempt, Thread}, declared.{access.Access.TheVariants.Load, lock.{Held.Held, LockWord.TheVariants.Free}, phase.{After.After, Phase.Phase}}}
 use Rattle.laws_states.proofs.WordViews.{set_self}
-use Rattle.machine_types.specs.declared.lock.LockWord.TheVariants as locks
 use Rattle.machine_types.specs.declared.phase.Phase.TheVariants as phases
 
 -- ---- what the fate says
@@ -60,7 +59,7 @@ module _ (c : MarkedProgram) (s : Core) (t : ℕ) (x : Thread) (a : Attempt) (th
   wants = ap (wanted c x) d.leaves ∙ ap (leave_wants x a.monitor) d.claims ∙ ap (finish_wants a.monitor) d.outermost
 
   pub as_noted : IsAsNoted s.words a
-  as_noted = sym (ap (found_by s.words) wants) ∙ (Decides-eqb (found_by s.words (wanted c x x.phase)) (word_of_lock (locks.Free a.noted))).0 d.same
+  as_noted = sym (ap (found_by s.words) wants) ∙ (Decides-eqb (found_by s.words (wanted c x x.phase)) (word_of_lock (Free a.noted))).0 d.same
 
   moves : (o : Onward) → after c.program x.frames d.after_it ≡ Some o → moved c x x.phase (found_by s.words (wanted c x x.phase)) ≡ goes_on (elided x) o
   moves o goes =

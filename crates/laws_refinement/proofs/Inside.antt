@@ -1,13 +1,12 @@
 -- What is known of a thread inside an attempt: its phase, how it stands to the monitor that it enters or leaves there, and what
 -- the instruction of its top frame may do.
 use Rattle.std.proofs.Common.{◌≡◌, ℕ, ◌<◌, Bool, false, cond, List, [], ◌∷◌, length, Option, Some, None, refl, ap, ◌∙◌, subst, arith}
-use Rattle.jvm_types.specs.declared.outcome.End.{End}
+use Rattle.jvm_types.specs.declared.outcome.End.{End, TheVariants.{Returned, Uncaught}}
 use Rattle.checked_program.specs.MarkedProgram.{MarkedProgram, IsMarked}
 use Rattle.machine_types.specs.{Frames.{Top, top_of, effect_at}, HeldMonitors.held_at, Monitors.{Tries, HasNot, claim, claim_by}, Parts.has_finished, Shown.Show, Standing.Whole}
 use Rattle.machine_types.specs.{Structure.{AttemptStands, AttemptStandsIn, IsAs, IsLimitAt, IsStructured, Stands}, Threads.{Attempt, Frame, Thread}, declared.{lock.Held.Held, phase.Phase.Phase}}
 use Rattle.machine_types.proofs.PlainStepLaws.{is_same}
 use Rattle.laws_threads.{specs.{InsideEffects.{InsideMayDo, MayDo, TakesOwned}, InsideMoves.ElementsInside}, proofs.FramePlaces.has_top}
-use Rattle.jvm_types.specs.declared.outcome.End.TheVariants as ends
 use Rattle.machine_types.specs.declared.phase.Phase.TheVariants as phases
 
 -- ---- what is known
@@ -58,8 +57,8 @@ top_there c marked (f ∷ fs) shown base show some = let k = show.3.stands in (_
 -- ---- by its phase
 
 by_limit : (e : End) (phase was : Phase) → IsLimitAt e phase was → (was ≡ phase → ⊥) → has_finished e ≡ false
-by_limit ends.Returned phase was is never = absurd (never is)
-by_limit (ends.Uncaught class) phase was is never = absurd (never is)
+by_limit Returned phase was is never = absurd (never is)
+by_limit (Uncaught class) phase was is never = absurd (never is)
 by_limit e phase was is never = refl
 
 module _ (may_do : InsideMayDo) (elements : ElementsInside) (c : MarkedProgram) (marked : IsMarked c) (x : Thread) (a : Attempt) (attempt : x.attempt ≡ Some a) where

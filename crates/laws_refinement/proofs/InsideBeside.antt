@@ -1,17 +1,15 @@
 -- While a section that was entered without its lock is not done, its thread stands for one that is still about to enter: the same
 -- plain state stands beside.
 use Rattle.std.proofs.Common.{◌≡◌, ℕ, ◌<◌, Bool, true, false, List, [], ◌∷◌, length, Option, Some, refl, sym, ap, ◌∙◌, subst, slice_get, slice_set, if◌then◌else◌}
-use Rattle.jvm_types.specs.declared.{outcome.End.End, program.Program.Program}
+use Rattle.jvm_types.specs.declared.{outcome.End.{End, TheVariants.Returned}, program.Program.Program}
 use Rattle.checked_program.specs.MarkedProgram.{MarkedProgram}
-use Rattle.machine_types.specs.{Agreement.{AttemptFits, StatusFits, ThreadFits, frames_shown, roots_shown}, Core.{Core, event, event_of}, Events.moved}
-use Rattle.machine_types.specs.{History.{Fate, GoesOn, Fails, Finishes, fate}, Parts.{has_finished}, PlainMemory.Object, PlainState.{Plain, PlainThread}}
-use Rattle.machine_types.{specs.{Threads.{Attempt, Thread}, declared.{phase.Phase.Phase}}, proofs.Lists.{set_as_it_is, got_when_set}}
+use Rattle.machine_types.specs.{Agreement.{AttemptFits, StatusFits, ThreadFits, frames_shown, roots_shown}, Core.{Core, event, event_of}, Events.moved, History.{Fate, GoesOn, Fails, Finishes, fate}}
+use Rattle.machine_types.{specs.{Parts.has_finished, PlainMemory.Object, PlainState.PlainThread, Threads.{Attempt, Thread}, declared.phase.Phase.Phase}, proofs.Lists.{set_as_it_is, got_when_set}}
 use Rattle.laws_threads.specs.{EntryFrames.{StepsKeepEntry, ThrowsKeepEntry, LeavesKeepEntry}, InsideEffects.InsideMayDo, InsideMoves.ElementsInside, StateLaws.counted_after}
 use Rattle.laws_states.specs.{HeapFacts.{objects_by, objects_of}, StateLaws.EventsKeepState}
 use Rattle.laws_simulation.{specs.StandsBeside.{StandsBeside, ends_shown, own_end}, proofs.{Assembled.moved_beside, HoldingsAlike.alike_kept, Moved.ends_alike}}
 use Rattle.laws_refinement.{specs.ElidedSteps.{AttemptsStandBeside, IsNotFinished, found_of}, proofs.{Playing.{Player, has_bit, plain_fits, plain_there}, Inside.{Inside, KnownInside, is_inside}, InsideMoves.{Moves, moves_inside}}}
 use Rattle.laws_refinement.proofs.InsideWords.{words_stay}
-use Rattle.jvm_types.specs.declared.outcome.End.TheVariants as ends
 use Rattle.machine_types.specs.PlainState as plain
 use Rattle.machine_types.specs.declared.phase.Phase.TheVariants as phases
 
@@ -20,7 +18,7 @@ use Rattle.machine_types.specs.declared.phase.Phase.TheVariants as phases
 pub record IsStill (p : Program) (objects : List Object) (phase : Phase) : Type 0 where
   pub own : own_end phase ≡ []
   pub makes : (r word : ℕ) → phase ≡ phases.Made r word → ⊥
-  pub rests : phase ≡ phases.Ended ends.Returned → ⊥
+  pub rests : phase ≡ phases.Ended Returned → ⊥
   pub same : objects_by p phase objects ≡ objects
 
 by_end : (e : End) → has_finished e ≡ false → (if has_finished e then e ∷ [] else []) ≡ []
@@ -29,7 +27,7 @@ by_end e k = ap (λ (b : Bool). if b then e ∷ [] else []) k
 still_inside : (c : MarkedProgram) (objects : List Object) (x : Thread) (a : Attempt) (phase : Phase) → KnownInside c x a phase → IsStill c.program objects phase
 still_inside c objects x a (phases.Ending e) k = record { own = by_end e k; makes = λ r word e. cc; rests = λ e. cc; same = refl }
 still_inside c objects x a (phases.Ended e) k =
-    let ended_by : phases.Ended e ≡ phases.Ended ends.Returned → e ≡ ends.Returned = λ same. cc in
+    let ended_by : phases.Ended e ≡ phases.Ended Returned → e ≡ Returned = λ same. cc in
     record { own = by_end e k; makes = λ r word e. cc; rests = λ same. (let clash : true ≡ false = sym (ap has_finished (ended_by same)) ∙ k in cc); same = refl }
 still_inside c objects x a (phases.Made r word) k = absurd k
 still_inside c objects x a phase k = record { own = refl; makes = λ r word e. cc; rests = λ e. cc; same = refl }

@@ -1,11 +1,10 @@
 -- An event inside an attempt only looks, so it changes no word.
 use Rattle.std.proofs.Common.{ℕ, List, Option, Some, None, refl, sym, ap, ◌∙◌, subst}
 use Rattle.checked_program.specs.MarkedProgram.{MarkedProgram}
-use Rattle.machine_types.specs.{Core.event_of, Events.wanted, Threads.{Attempt, Thread}, declared.{access.Access.{Access, TheVariants.Load}, phase.Phase.Phase}}
+use Rattle.machine_types.specs.{Core.event_of, Events.wanted, Threads.{Attempt, Thread}, declared.{access.Access.{Access, TheVariants.Load}, phase.Phase.{Phase, TheVariants.Ending}}}
 use Rattle.laws_threads.specs.{InsideEffects.InsideMayDo, InsideMoves.ElementsInside}
 use Rattle.laws_simulation.proofs.EventSteps.{LeavesWords, load_leaves}
 use Rattle.laws_refinement.{specs.{ElidedSteps.AttemptsAreSilent, Entries.{IsLook, OnlyLooks}}, proofs.{Inside.{Inside, is_inside}, Looks.only_looks}}
-use Rattle.machine_types.specs.declared.phase.Phase.TheVariants as phases
 
 look_leaves : (words : List ℕ) (access : Option Access) → IsLook access → LeavesWords words access
 look_leaves words None k = refl
@@ -13,7 +12,7 @@ look_leaves words (Some (Load w)) k = load_leaves words w
 look_leaves words (Some access) k = absurd k
 
 looks_leave : (words : List ℕ) (phase : Phase) (access : Option Access) → OnlyLooks phase access → LeavesWords words access
-looks_leave words (phases.Ending e) access k = subst (LeavesWords words) (sym k.0) refl
+looks_leave words (Ending e) access k = subst (LeavesWords words) (sym k.0) refl
 looks_leave words phase access k = look_leaves words access k
 
 pub words_stay : (words : List ℕ) (c : MarkedProgram) (x : Thread) (a : Attempt) → Inside c x a → LeavesWords words (wanted c x x.phase)

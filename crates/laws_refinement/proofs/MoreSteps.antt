@@ -3,9 +3,8 @@ use Rattle.std.proofs.Common.{◌≡◌, ℕ, zero, suc, ◌+◌, List, [], ◌�
 use Rattle.lists.proofs.ListLaws.{same_some}
 use Rattle.jvm_types.specs.declared.program.Program.{Program}
 use Rattle.checked_program.specs.MarkedProgram.{MarkedProgram}
-use Rattle.machine_types.specs.{Core.{start, start_thread}, Counting.{count_from, count_along, CountsFit}, History.{Past, no_past}, Parts.init_roots, PlainState.Plain, PlainSteps.{plain_step, plain_run}}
-use Rattle.machine_types.specs.{Threads.Thread, declared.{config.Config.Config, plain.PlainStep.PlainStep}}
-use Rattle.machine_types.proofs.AtStart.{is_start_thread}
+use Rattle.machine_types.specs.{Core.{start, start_thread}, Counting.{count_from, count_along, CountsFit}, History.{Past, no_past}, Parts.init_roots, PlainState.Plain}
+use Rattle.machine_types.{specs.{PlainSteps.{plain_step, plain_run}, Threads.Thread, declared.{config.Config.Config, plain.PlainStep.PlainStep}}, proofs.AtStart.is_start_thread}
 use Rattle.laws_simulation.proofs.PlainCounts.{counts_append}
 use Rattle.laws_refinement.proofs.SameCounts.{part_extra}
 

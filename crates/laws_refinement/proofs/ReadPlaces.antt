@@ -2,15 +2,13 @@
 -- object; and its object is built by no other thread.
 use Rattle.std.proofs.Common.{◌≡◌, ◌≢◌, ◌⊎◌, inl, inr, ℕ, ◌<◌, Bool, true, false, List, Option, Some, None, refl, sym, ap, ◌∙◌, subst, arith, ⊎_elim, slice_get, slice_index}
 use Rattle.lists.proofs.ListLaws.{same_some}
-use Rattle.jvm_types.specs.{CodeTable.{get_row, get_static_row}, Members.{MethodSite, is_static}, Types.is_below, declared.{code.Op.Op, op_row.OpRow.OpRow, program.FieldInfo.FieldInfo}}
-use Rattle.jvm_types.specs.declared.{program.Program.Program, typing.VType.VType}
+use Rattle.jvm_types.specs.{CodeTable.{get_row, get_static_row}, Members.{MethodSite, is_static}, Types.is_below, declared.{code.Op.{Op, TheVariants.{Getfield, Getstatic}}, op_row.OpRow.OpRow}}
+use Rattle.jvm_types.specs.declared.{program.{FieldInfo.FieldInfo, Program.Program, Target.TheVariants.Field}, typing.VType.VType}
 use Rattle.laws_programs.specs.TargetLaws.{HasRow, NamesField}
 use Rattle.checked_program.specs.{FrozenPlaces.{IsFrozenField, IsGuardedField}, SectionLaws.ReadsOnly, TaggedCode.Tagged, declared.{section.Mode.{Mode, TheVariants.OnThis}, tag.Tag.Tag}}
 use Rattle.checked_program.specs.declared.tag.Tag.TheVariants.{This}
 use Rattle.machine_types.specs.{Construction.{SlotByType, OwnSlot, SlotIs}, Threads.Attempt, Worlds.{Builder, World, IsOwnOrFinished, IsViewOf}}
 use Rattle.laws_states.proofs.Lists.{same_or_not}
-use Rattle.jvm_types.specs.declared.code.Op.TheVariants as ops
-use Rattle.jvm_types.specs.declared.program.Target.TheVariants as targets
 use Rattle.jvm_types.specs.declared.typing.VType.TheVariants as types
 
 -- ---- which field
@@ -25,7 +23,7 @@ pub record GetsField (p : Program) (tags : Tagged) (mode : Mode) (o number : ℕ
   pub is : slice_get p.fields number ≡ Some field
   pub instance : is_static field.flags ≡ false
   pub constant : ℕ
-  pub gets : op ≡ ops.Getfield constant
+  pub gets : op ≡ Getfield constant
   pub row : r ≡ get_row (Some field)
   pub stays : MayStay p tags mode number (slice_index stack 0) o
 
@@ -36,9 +34,9 @@ no_static p number row_of r f there instance k =
     cc
 
 pub gets_field : (p : Program) (tags : Tagged) (site : MethodSite) (pc : ℕ) (mode : Mode) (o mi i number : ℕ) (f : FieldInfo) (op : Op) (r : OpRow) (stack : List ℕ) → slice_get p.fields number ≡ Some f → is_static f.flags ≡ false
-    → HasRow p site pc (targets.Field number) op r → ReadsOnly p tags mode o mi i op (targets.Field number) stack → GetsField p tags mode o number op r stack
-gets_field p tags site pc mode o mi k number f (ops.Getfield i) r stack there instance row h = record { field = row.field; is = row.there; instance = row.sort; constant = i; gets = refl; row = row.its; stays = h }
-gets_field p tags site pc mode o mi k number f (ops.Getstatic i) r stack there instance row h = absurd (no_static p number get_static_row r f there instance row)
+    → HasRow p site pc (Field number) op r → ReadsOnly p tags mode o mi i op (Field number) stack → GetsField p tags mode o number op r stack
+gets_field p tags site pc mode o mi k number f (Getfield i) r stack there instance row h = record { field = row.field; is = row.there; instance = row.sort; constant = i; gets = refl; row = row.its; stays = h }
+gets_field p tags site pc mode o mi k number f (Getstatic i) r stack there instance row h = absurd (no_static p number get_static_row r f there instance row)
 gets_field p tags site pc mode o mi k number f op r stack there instance row h = absurd (assumption)
 
 -- ---- who builds its object

@@ -3,15 +3,13 @@ use Rattle.std.proofs.{Common.{◌≡◌, ◌≢◌, inl, inr, ℕ, zero, suc, B
 use Rattle.std.proofs.lemmas.Bool.Decides.{Decides-eqb}
 use Rattle.lists.proofs.ListLaws.{same_some}
 use Rattle.checked_program.specs.MarkedProgram.{MarkedProgram, IsMarked}
-use Rattle.machine_types.specs.Accesses.{found_by}
-use Rattle.machine_types.specs.Core.{Core, Happening, Of, NextPart, start, start_thread, event, event_of, happened, next, all_happened, core, part_phase}
-use Rattle.machine_types.specs.{Events.{wanted, moved}, Parts.{init_roots}, Structure.Structure, Threads.{Attempt, Thread}, declared.{config.Config.Config, phase.Phase.Phase}}
+use Rattle.machine_types.specs.{Accesses.found_by, Core.{Core, Happening, Of, NextPart, start, start_thread, event, event_of, happened, next, all_happened, core, part_phase}, Events.{wanted, moved}}
+use Rattle.machine_types.specs.{Parts.init_roots, Structure.Structure, Threads.{Attempt, Thread}, declared.{config.Config.Config, phase.Phase.{Phase, TheVariants.Idle}}}
 use Rattle.machine_types.proofs.{AtStart.is_start_thread, Lists.{got_when_set, got_other}}
 use Rattle.laws_threads.specs.{InsideEffects.InsideMayDo, InsideMoves.ElementsInside, PartLaws.PartsFit}
 use Rattle.laws_states.{specs.{RunFacts.HaveWidth, RunLaws.PartsKeepThreads, StateLaws.{ProgramsKeepThreads, RunsHaveState, IsInState}}, proofs.GrowingRuns.one_more}
 use Rattle.laws_refinement.{specs.{Entries.{failed_of, failed_with, failed_from, failed_here, KeepsCount, HasFailedCount}, EntryLaws.ThreadsKeepCount}, proofs.Counts.{Counts, event_counted}}
 use Rattle.laws_refinement.proofs.{Inside.is_inside, SameCounts.{IsPassedOn, came_from}}
-use Rattle.machine_types.specs.declared.phase.Phase.TheVariants as phases
 
 -- ---- an event
 
@@ -62,7 +60,7 @@ start_keeps : (c : MarkedProgram) (cfg : Config) (t : ℕ) → HasFailedCount (s
 start_keeps c cfg t = record { few = omega arith; kept = λ x e. subst (λ (z : Thread). KeepsCount z.attempt z.phase 0) (is_start_thread c cfg t x e) (by_number t) }
   where
     by_number : (n : ℕ) → KeepsCount (start_thread c cfg n).attempt (start_thread c cfg n).phase 0
-    by_number zero = at_root 0 None phases.Idle (init_roots c.program) tt
+    by_number zero = at_root 0 None Idle (init_roots c.program) tt
     by_number (suc n) = tt
 
 module _ (may_do : InsideMayDo) (elements : ElementsInside) (runs : RunsHaveState) (c : MarkedProgram) (cfg : Config) (marked : IsMarked c) (width : HaveWidth cfg) (parts : PartsKeepThreads c cfg) (t : ℕ) where

@@ -3,9 +3,8 @@ use Rattle.std.{proofs.Common.{◌≡◌, ◌⊎◌, inl, inr, ℕ, zero, suc, B
 use Rattle.lists.proofs.ListLaws.{same_some}
 use Rattle.jvm_types.specs.declared.{outcome.Counts.Counts, program.Program.Program}
 use Rattle.machine_types.specs.{Core.{part_phase, may_begin, may_begin_by, with_roots, part_begins, next_threads}, Counting.{CountsFit, extra_of}, History.Past, Parts.{run_roots, done_roots}}
-use Rattle.machine_types.specs.{Threads.{Attempt, Thread}, declared.phase.Phase.Phase}
+use Rattle.machine_types.specs.{Threads.{Attempt, Thread}, declared.phase.Phase.{Phase, TheVariants.Idle}}
 use Rattle.laws_threads.specs.PartLaws.{PartFits, PartsFit}
-use Rattle.machine_types.specs.declared.phase.Phase.TheVariants as phases
 
 -- its phase is as it was, or a part of its own begins
 abbrev pub IsPassedOn : (was now : Phase) → Type 0
@@ -33,7 +32,7 @@ pub record CameFrom (threads : List Thread) (t : ℕ) (z : Thread) : Type 0 wher
   pub there : slice_get threads t ≡ Some old
   pub same : SameCounts old z
 
-workers_same : (roots : List ℕ) (workers : List Thread) (t : ℕ) (z : Thread) → AllByRecursion (λ w. w.phase ≡ phases.Idle) workers → slice_get (map (with_roots roots) workers) t ≡ Some z → CameFrom workers t z
+workers_same : (roots : List ℕ) (workers : List Thread) (t : ℕ) (z : Thread) → AllByRecursion (λ w. w.phase ≡ Idle) workers → slice_get (map (with_roots roots) workers) t ≡ Some z → CameFrom workers t z
 workers_same roots [] t z idle e = absurd (cc)
 workers_same roots (x ∷ workers) zero z idle e = record { old = x; there = refl; same = begins_same roots x z (ap (extra_of None) idle.0) (same_some e) }
 workers_same roots (x ∷ workers) (suc t) z idle e = let k = workers_same roots workers t z idle.1 e in record { old = k.old; there = k.there; same = k.same }

@@ -2,15 +2,14 @@
 use Rattle.std.proofs.Common.{ℕ, List, Option, sym, subst, Contains}
 use Rattle.jvm_types.specs.declared.program.Program.{Program}
 use Rattle.machine_types.specs.{Attempts.{IsFieldAt, Stays, header, frozen, guarded, element, frozen_static, guarded_static}, Core.event, NewObjects.size_by, OwnedPlaces.IsElementOf}
-use Rattle.machine_types.specs.{PlainMemory.{Object, new_object}, Threads.Thread, Worlds.IsOwnOrFinished, declared.phase.Phase.Phase}
+use Rattle.machine_types.specs.{PlainMemory.{Object, new_object}, Threads.Thread, Worlds.IsOwnOrFinished, declared.phase.Phase.{Phase, TheVariants.Made}}
 use Rattle.laws_states.{specs.HeapFacts.{objects_after, objects_by, objects_of}, proofs.Lists.contains_more}
 use Rattle.laws_refinement.{specs.ElidedSteps.next_free, proofs.Attempting.Event}
-use Rattle.machine_types.specs.declared.phase.Phase.TheVariants as phases
 
 -- ---- objects stay
 
 more_objects : (p : Program) (phase : Phase) (objects : List Object) (o : Object) → Contains objects o → Contains (objects_by p phase objects) o
-more_objects p (phases.Made a word) objects o k = contains_more (new_object a word (size_by p word)) objects o k
+more_objects p (Made a word) objects o k = contains_more (new_object a word (size_by p word)) objects o k
 more_objects p phase objects o k = k
 
 module _ (its : Event) where

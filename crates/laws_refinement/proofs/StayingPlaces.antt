@@ -3,16 +3,14 @@ use Rattle.std.proofs.Common.{◌≡◌, ◌≢◌, ◌⊎◌, inl, inr, ℕ, ze
 use Rattle.lists.proofs.ListLaws.{same_some}
 use Rattle.jvm_types.specs.{ClassNames.file_of_class, Members.{is_final, is_private, is_static}, declared.program.FieldInfo.FieldInfo}
 use Rattle.checked_program.specs.SectionLaws.{OwnedIsDecided}
-use Rattle.machine_types.specs.{Accesses.words_after, Attempts.{IsFieldAt, Stays, header, frozen, guarded, element, frozen_static, guarded_static}, Construction.AttemptKeepsIn, Core.{event, event_of}, Events.wanted}
-use Rattle.machine_types.specs.{Guards.{Changes, ChangesWord, HoldsMonitor, IsOfClassInit, KeepsGuards, MakesClass, MakesObject}, LockWords.word_of_lock}
-use Rattle.machine_types.specs.{PlainMemory.Object, Structure.{AttemptStands, AttemptStandsIn, IsAs, IsPhaseInside, IsStructured, Stands}, Threads.{Attempt, Frame, Thread}}
-use Rattle.machine_types.specs.{Words.{class_object, value_word}, Worlds.{Builder, IsOwnOrFinished}, declared.phase.Phase.Phase}
+use Rattle.machine_types.specs.{Accesses.words_after, Attempts.{IsFieldAt, Stays, header, frozen, guarded, element, frozen_static, guarded_static}, Construction.AttemptKeepsIn, Core.{event, event_of}}
+use Rattle.machine_types.specs.{Events.wanted, Guards.{Changes, ChangesWord, HoldsMonitor, IsOfClassInit, KeepsGuards, MakesClass, MakesObject}, LockWords.word_of_lock, PlainMemory.Object}
+use Rattle.machine_types.specs.{Structure.{AttemptStands, AttemptStandsIn, IsAs, IsPhaseInside, IsStructured, Stands}, Threads.{Attempt, Frame, Thread}, Words.{class_object, value_word}}
+use Rattle.machine_types.specs.{Worlds.{Builder, IsOwnOrFinished}, declared.{lock.LockWord.TheVariants.Free, phase.Phase.{Phase, TheVariants.Idle}}}
 use Rattle.laws_threads.specs.{InsideEffects.InsideMayDo, InsideMoves.ElementsInside}
 use Rattle.laws_states.proofs.{Lists.same_or_not, Movers.KnownSites}
 use Rattle.laws_objects.proofs.{ElementWriters.{ElementWriter, StoresElement, element_writer}, PlaceWriters.{BuiltEvent, TopWrites}}
 use Rattle.laws_refinement.{specs.ElidedSteps.next_free, proofs.{Attempting.Event, FieldWriters.{TopIsOf, field_writer}, Inside.is_inside, InsideWords.words_stay, LockNoted.held_not, OwnBuilders.{IsOwn, makes_own}, StayingOn.still_object}}
-use Rattle.machine_types.specs.declared.lock.LockWord.TheVariants as locks
-use Rattle.machine_types.specs.declared.phase.Phase.TheVariants as phases
 
 -- the laws of events that it follows from
 pub record AreEventFacts : Type 0 where
@@ -107,13 +105,13 @@ module _ (its : Event) where
                 by_number zero zero f g = other (f ∙ sym g)
                 by_number (suc i) j f g =
                     let st : IsStructured c (was u) y = facts.structure u y there in
-                    let is : was u ≡ phases.Idle = subst (λ (phase : Phase). IsAs phase (was u)) (makes.no_worker i y (subst (λ (n : ℕ). slice_get s.threads n ≡ Some y) f there)) st.is_as in
+                    let is : was u ≡ Idle = subst (λ (phase : Phase). IsAs phase (was u)) (makes.no_worker i y (subst (λ (n : ℕ). slice_get s.threads n ≡ Some y) f there)) st.is_as in
                     let inside : AttemptStands c (was u) y.frames y.held mine = subst (AttemptStandsIn c (was u) y.frames y.held) tries st.attempt in
                     subst (IsPhaseInside mine.monitor) is inside.inside
                 by_number zero (suc j) f g =
                     let st : IsStructured c (was t) x = facts.structure t x turns.thread in
-                    let is : was t ≡ phases.Idle = subst (λ (phase : Phase). IsAs phase (was t)) (makes.no_worker j x (subst (λ (n : ℕ). slice_get s.threads n ≡ Some x) g turns.thread)) st.is_as in
-                    let stands : Stands c phases.Idle x.frames x.held x.attempt = subst (λ (phase : Phase). Stands c phase x.frames x.held x.attempt) is st.stands in
+                    let is : was t ≡ Idle = subst (λ (phase : Phase). IsAs phase (was t)) (makes.no_worker j x (subst (λ (n : ℕ). slice_get s.threads n ≡ Some x) g turns.thread)) st.is_as in
+                    let stands : Stands c Idle x.frames x.held x.attempt = subst (λ (phase : Phase). Stands c phase x.frames x.held x.attempt) is st.stands in
                     subst (IsOfClassInit c class) stands.phase_shows makes.runs
 
       -- one number names one field
@@ -121,12 +119,12 @@ module _ (its : Event) where
       same_field fi f g e h = same_some (sym e ∙ h)
 
       -- the thread that moves does not hold a free monitor
-      not_by_lock : (Makes : Type 0) (m n o : ℕ) → slice_index s.words m ≡ word_of_lock (locks.Free n) → o ≡ m → HoldsMonitor o x ⊎ Makes → Makes
+      not_by_lock : (Makes : Type 0) (m n o : ℕ) → slice_index s.words m ≡ word_of_lock (Free n) → o ≡ m → HoldsMonitor o x ⊎ Makes → Makes
       not_by_lock Makes m n o free at (inl holds) = absurd (held_not c its.cfg objects was s t x facts turns.thread m n free (subst (λ (r : ℕ). HoldsMonitor r x) at holds))
       not_by_lock Makes m n o free at (inr makes) = makes
 
       -- for a thread in an attempt
-      pub still_word : (y : Thread) → slice_get s.threads u ≡ Some y → (a : Attempt) → y.attempt ≡ Some a → (z : ℕ) → slice_index s.words a.monitor ≡ word_of_lock (locks.Free a.noted) → Stays c own.stores objects w (next_free s) u a.monitor z → slice_index (event c s t).words z ≡ slice_index s.words z
+      pub still_word : (y : Thread) → slice_get s.threads u ≡ Some y → (a : Attempt) → y.attempt ≡ Some a → (z : ℕ) → slice_index s.words a.monitor ≡ word_of_lock (Free a.noted) → Stays c own.stores objects w (next_free s) u a.monitor z → slice_index (event c s t).words z ≡ slice_index s.words z
       still_word y there a tries z free (header o known at) =
           ap (slice_index (event c s t).words) at ∙ turns.facts_after.heap.typed.places.headers o (still_object its o known) ∙ sym (ap (slice_index s.words) at ∙ facts.heap.typed.places.headers o known)
       still_word y there a tries z free (frozen fi o is k) =

@@ -6,12 +6,10 @@ use Rattle.checked_program.{specs.MarkedProgram.MarkedProgram, proofs.FilledTags
 use Rattle.machine_types.specs.{Elision.{may_try, is_same, is_checked, put_back, fails, elided}, Events.{element_made, moved}, Frames.{Top, top_of, effect_at, returned, went_on}}
 use Rattle.machine_types.specs.{Going.{with_phase, goes_on, goes_on_if, goes_after, root_over}, History.{Fate, GoesOn, Fails, Finishes, fate, fate_by, run_fate, leave_fate}}
 use Rattle.machine_types.specs.{Instructions.{begun, did, instructed, ran}, Monitors.{Claim, finishes, enter_moves, leave_moves}, Onward.{Onward, Running, back, unwound, dispatched, after, done}}
-use Rattle.machine_types.specs.{Threads.{Attempt, Frame, Thread}, declared.{effect.Effect.{Effect}, phase.After.After}}
-use Rattle.machine_types.specs.declared.phase.Phase.{Phase}
+use Rattle.machine_types.specs.{Threads.{Attempt, Frame, Thread}, declared.{effect.Effect.Effect, phase.{After.{After, TheVariants.{Next, Return, Unwind}}, Phase.Phase}}}
 use Rattle.laws_threads.{specs.InsideEffects.MayDo, proofs.ThreadMove.same_onward}
 use Rattle.laws_states.proofs.PlainMoves.{goes_attempt}
 use Rattle.laws_refinement.{specs.EntryLaws.HasFailed, proofs.{Checks.{checked, did_by, instructed_by}, Inside.{Inside, KnownInside}, OutsideEntries.{is_entering, in_run}}}
-use Rattle.machine_types.specs.declared.phase.After.TheVariants as afters
 use Rattle.machine_types.specs.declared.phase.Phase.TheVariants as phases
 
 -- x is the thread before
@@ -35,10 +33,10 @@ module _ (s : Thread) where
   unwound_elsewhere x class (f ∷ fs) = refl
 
   after_elsewhere : (p : Program) (fs : List Frame) (a : After) → IsElsewhere s → IsElsewhere (goes_on_if s (after p fs a))
-  after_elsewhere p fs afters.Next k = in_run (nat_lt s.counts.instructions s.cfg.steps)
-  after_elsewhere p fs afters.Return k = elim (top_of p fs) as (λ (top : Option Top). IsElsewhere (goes_on_if s (option_map (λ at. back (returned p at)) top)))
+  after_elsewhere p fs Next k = in_run (nat_lt s.counts.instructions s.cfg.steps)
+  after_elsewhere p fs Return k = elim (top_of p fs) as (λ (top : Option Top). IsElsewhere (goes_on_if s (option_map (λ at. back (returned p at)) top)))
       [ None ↦ k | Some at ↦ back_elsewhere (returned p at) ]
-  after_elsewhere p fs (afters.Unwind x class) k = unwound_elsewhere x class (drop 1 fs)
+  after_elsewhere p fs (Unwind x class) k = unwound_elsewhere x class (drop 1 fs)
 
 -- ---- a thread that goes on counts no failure
 
