@@ -16,7 +16,7 @@ if_same_goes z y (Some a) got never = (elim (is_same a got) as (λ (b : Bool). (
 module _ (p : Program) (at : Top) (got m : ℕ) (fs : List Frame) where
   did_enter : (s : Thread) (e : Effect) → done p at e got ≡ Some (Entering m fs) → did p s at e got ≡ goes_on s (Entering m fs)
   did_enter s (Indexes array index stored) k = absurd (let bad : None ≡ Some (Entering m fs) = k in cc)
-  did_enter s e k = first_of (search (ap (goes_on_if s) k), cc)
+  did_enter s e k = first_of (cc, search (ap (goes_on_if s) k))
 
   instructed_goes : (x : Thread) (e : Effect) → ((a : Attempt) → x.attempt ≡ Some a → cond (is_checked at.frame.pc e) (fate_by (is_same a got) GoesOn) GoesOn ≡ Fails → ⊥) → instructed p (begun x) at e got ≡ did p (begun x) at e got
   instructed_goes x e never = (elim (is_checked at.frame.pc e) as (λ (b : Bool). ((a : Attempt) → x.attempt ≡ Some a → cond b (fate_by (is_same a got) GoesOn) GoesOn ≡ Fails → ⊥) → cond b (if_same (begun x) x.attempt got (did p (begun x) at e got)) (did p (begun x) at e got) ≡ did p (begun x) at e got)
