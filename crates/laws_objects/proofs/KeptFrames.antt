@@ -131,7 +131,7 @@ module _ (building : Building) (z : World) (more : ℕ) (grows : building.next �
 
   pub phase_kept : (phase : Phase) → PhaseKeeps w next t phase → PhaseKeeps z more t phase
   phase_kept (phases.Throw x class) k = old x k
-  phase_kept phase k = first_of (assumption, search (known, after_kept, toward_kept))
+  phase_kept phase k = first_of (assumption, search known, search (known, after_kept), search (known, toward_kept))
 
   pub attempt_kept : (fs : List Frame) (o : Option Attempt) → TriesIn building fs o → TriesIn (in_later building z more) fs o
   attempt_kept fs None k = tt
