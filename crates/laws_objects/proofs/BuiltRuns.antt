@@ -148,9 +148,6 @@ module _ (run : Run) where
     abbrev found : ℕ
     found = found_by s.words (wanted c x x.phase)
 
-    abbrev Behind : Option Thread → Type 0
-    Behind o = LostThere c cfg frozen v (objects_of c.program o objects) (counted_phase_at was t (event_of c s t o).threads) (event_of c s t o)
-
     facts_so : StateFacts c cfg (objects_of c.program (Some x) objects) (counted_phase_at was t (event_of c s t (Some x)).threads) (event_of c s t (Some x))
     facts_so = subst (λ (o : Option Thread). StateFacts c cfg (objects_of c.program o objects) (counted_phase_at was t (event_of c s t o).threads) (event_of c s t o)) here (laws.events_state c cfg objects was s t marked width k.facts)
 
@@ -163,7 +160,7 @@ module _ (run : Run) where
         let plain = unwound_stores laws.lies laws.structure state t x here u in
         let behind : to.moves.later v ≡ Some (lost (builder t (length u.below) Begun)) = ap (λ (z : World). z v) to.is_later ∙ losing_here keeps.now v (builder t (length u.below) Begun) in
         let view : to.moves.keeps.now v ≡ Some (lost (builder t (length u.below) Begun)) = ap (λ (z : World). z v) to.is_now ∙ losing_here keeps.now v (builder t (length u.below) Begun) in
-        subst Behind (sym here) (record {
+        subst (λ (o : Option Thread). LostThere c cfg frozen v (objects_of c.program o objects) (counted_phase_at was t (event_of c s t o).threads) (event_of c s t o)) (sym here) (record {
           there = record { facts = facts_so; owning = k.owning; world = to.moves.later; built = usual_built laws.lies laws.structure state t x here plain to.moves };
           builder = lost (builder t (length u.below) Begun);
           lost = usual_loses laws.lies laws.structure state t x here plain to.moves v (lost (builder t (length u.below) Begun)) (record {

@@ -91,21 +91,10 @@ module _ (c : MarkedProgram) (was : Phase) (x : Thread) (structured : IsStructur
   -- it stands as before its instruction
   stands_before : Stands c Run x.frames x.held None
   stands_before =
-      let storing : IsStructured c was (record x { phase = Element word (Some k.value) }) =
-      subst (λ (phase : Phase). IsStructured c was (record x { phase = phase })) k.stores
-      structured in
-      let stands : Stands c (Element word (Some k.value)) x.frames x.held None =
-      subst (λ (a : Option Attempt). Stands c
-      (Element word (Some k.value)) x.frames x.held a) outside
-      (subst (λ (phase : Phase). Stands c phase x.frames x.held x.attempt) storing.is_as
-      structured.stands) in
-      record {
-        shown = stands.shown;
-        show = stands.show;
-        depths = stands.depths;
-        once = stands.once;
-        phase_shows = has_frame x.frames stands.phase_shows;
-      }
+      let counted : was ≡ Element word (Some k.value) = subst (λ (phase : Phase). IsAs phase was) k.stores structured.is_as in
+      let stands : Stands c (Element word (Some k.value)) x.frames x.held None = subst (λ (a : Option Attempt). Stands c (Element word (Some k.value)) x.frames x.held a) outside
+      (subst (λ (phase : Phase). Stands c phase x.frames x.held x.attempt) counted structured.stands) in
+      record { shown = stands.shown; show = stands.show; depths = stands.depths; once = stands.once; phase_shows = has_frame x.frames stands.phase_shows }
     where
       has_frame : (fs : List Frame) → TopIs c (is_element_op (Some k.value)) fs → HasFrame fs
       has_frame [] top = top

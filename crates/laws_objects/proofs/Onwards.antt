@@ -214,13 +214,13 @@ module _ (lawful : LawfulBuilding) where
         entry : Frame
         entry = entry_frame number m (arguments_of c.program at)
 
-        entry_known : (z : World) → GoesOn w z next next t 0 → IsOwnOrFinished z next t entry.receiver → IsOwnOrFinished z next t (monitor_of c.program m entry)
-        entry_known z g own = either_way (λ (b : Bool). IsOwnOrFinished z next t (if b then class_object c.program (file_of_class m.class) else entry.receiver)) (is_static m.flags)
-            (known_on (class_object c.program (file_of_class m.class)) z g (class_finished number m there)) own
-
         by_flag : (s : Bool) → Steps w next t (λ z. OnwardKeeps (in_world building z) (if s then Entering (monitor_of c.program m entry) (entry ∷ waiting c.program at) else Running (entry ∷ waiting c.program at)))
         by_flag true = steps_map w next t (CallKeeps lawful f fs k b number m there calls (arguments_of c.program at)) (λ z. OnwardKeeps (in_world building z) (Entering (monitor_of c.program m entry) (entry ∷ waiting c.program at)))
-            (λ z g p. (entry_known z g p.1, p.0)) (calls_it lawful f fs k b number m there calls)
+            (λ z g p. (
+              either_way (λ (b : Bool). IsOwnOrFinished z next t (if b then class_object c.program (file_of_class m.class) else entry.receiver)) (is_static m.flags)
+                  (known_on (class_object c.program (file_of_class m.class)) z g (class_finished number m there)) p.1,
+              p.0,
+            )) (calls_it lawful f fs k b number m there calls)
         by_flag false = steps_map w next t (CallKeeps lawful f fs k b number m there calls (arguments_of c.program at)) (λ z. OnwardKeeps (in_world building z) (Running (entry_frame number m (arguments_of c.program at) ∷ waiting c.program at)))
             (λ z g p. p.0) (calls_it lawful f fs k b number m there calls)
 

@@ -6,7 +6,7 @@ use Rattle.laws_programs.proofs.{ClassTreeLaws.files_alone, CodeOrder.have_targe
 use Rattle.checked_program.specs.{MarkedProgram.{MarkedProgram, IsMarked}, TaggedCode.row_of}
 use Rattle.machine_types.specs.{Accesses.{accessed, left_by, words_after}, Effects.effect, Events.wanted}
 use Rattle.machine_types.specs.{FoundWords.{Content, IntPlace, ReferencePlace, effect_content, run_content, leave_content, content_at}, Frames.{Top, top_of, effect_at}}
-use Rattle.machine_types.specs.{Instructions.{effect_wants, run_wants}, Monitors.{Claim, Has, claim}, PlainMemory.Object, Standing.Standing, Structure.{IsStructured, Stands, TopIs, is_element_op}}
+use Rattle.machine_types.specs.{Instructions.{effect_wants, run_wants}, Monitors.{Claim, Has, claim}, PlainMemory.Object, Standing.Standing, Structure.{IsAs, IsStructured, Stands, TopIs, is_element_op}}
 use Rattle.machine_types.specs.{Threads.{Frame, Thread}, Typed.{FramesHold, HasClass, HasElementIn, ElementStands, PhaseHolds}, Words.{value_word, variable_word}, declared.access.Access.Access}
 use Rattle.machine_types.specs.declared.{access.Access.TheVariants.Store, effect.{Effect.{Effect, TheVariants.{Reads, Writes}}, Variable.{Variable, TheVariants.{Instance, Static}}}, lock.Kept.Kept}
 use Rattle.machine_types.specs.declared.{lock.Kept.TheVariants.{Fat, Flat}, phase.Phase.{Phase, TheVariants.{Element, Leave, Run}}}
@@ -170,9 +170,8 @@ module _ (event : PlaceEvent) where
 
     at_element : (w v : ℕ) → x.phase ≡ Element w (Some v) → TopIs c (is_element_op (Some v)) x.frames
     at_element w v e =
-        let k : IsStructured c was (record x { phase = Element w (Some v) }) = subst (λ (phase : Phase). IsStructured c was (record x { phase = phase })) e structured in
-        let stands : Stands c (Element w (Some v)) x.frames x.held x.attempt = subst (λ (phase : Phase). Stands c phase x.frames x.held x.attempt) k.is_as structured.stands in
-        stands.phase_shows
+        let counted : was ≡ Element w (Some v) = subst (λ (phase : Phase). IsAs phase was) e structured.is_as in
+        (subst (λ (phase : Phase). Stands c phase x.frames x.held x.attempt) counted structured.stands).phase_shows
 
     pub place_changer : Stays ⊎ IsWriter IsSuch x ⊎ Stored
     place_changer = elim (word_at mover sites place is_there) [

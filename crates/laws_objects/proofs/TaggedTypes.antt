@@ -74,7 +74,7 @@ module _ (p : Program) (m : MethodInfo) (frames : List (Option TypeFrame)) (laid
       } in
       let has = (local (tag_plan p m) IsShapeBelow tag_order HasIt closed b tags tagged).live i f e in
       let same : has.0 ≡ g = cc (has.1, t) in
-      subst (λ (x : TypeFrame). P x f) same has.2
+      rw same at has.2
 
 -- ---- there are as many tags as types
 
