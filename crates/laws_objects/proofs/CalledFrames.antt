@@ -56,7 +56,8 @@ module _ (building : Building) (h : ℕ) (f : Frame) (k : FrameIn building h Run
       stack = moved (drop n k.stands.types.stack) (drop n k.stands.tags.stack) (drop n f.stack)
           (slots_drop (SlotOf frozen w next t h Runs k.stands.method f.receiver) n k.stands.types.stack k.stands.tags.stack f.stack (plain_stack building h f k (call_stores owning.owned k.stands.insn.op k.stands.target callee calls)));
       locals = moved k.stands.types.locals k.stands.tags.locals f.locals k.locals;
-      arrays = from_map (IsArraySlot c owning.stores f k.stands.number) (IsArraySlot c owning.stores (waits_on c f k.stands) k.stands.number) (λ i u v a. record { owned = λ o word is. a.owned o word is; other = λ none. a.other none }) n (drop n k.stands.types.stack) (drop n f.stack)
+      arrays = from_map (IsArraySlot c owning.stores f k.stands.number) (IsArraySlot c owning.stores (waits_on c f k.stands) k.stands.number)
+          (λ i u v a. record { owned = λ o word is. a.owned o word is; other = λ none. a.other none }) n (drop n k.stands.types.stack) (drop n f.stack)
           (from_drop (IsArraySlot c owning.stores f k.stands.number) n 0 n k.stands.types.stack f.stack (omega arith) k.arrays);
       no_arrays = k.no_arrays;
     };

@@ -114,7 +114,10 @@ module _ (c : MarkedProgram) (marked : IsMarked c) (mi : ℕ) where
       let a = method_at c marked mi m at.in_program in
       let same : at.frames ≡ a.tags = same_some (sym at.of_method ∙ a.its_tags) in
       all_have c.program m a.tags a.holds.laid a.holds.sound HasNoThis
-      (record { stack = hides_none; locals = subst (λ (b : Bool). Hides (if b then replicate m.max_locals Untagged else This ∷ replicate (m.max_locals - 1) Untagged)) (sym static) (hides_untagged m.max_locals) })
+      (record {
+        stack = hides_none;
+        locals = subst (λ (b : Bool). Hides (if b then replicate m.max_locals Untagged else This ∷ replicate (m.max_locals - 1) Untagged)) (sym static) (hides_untagged m.max_locals);
+      })
       (λ f g b h. record { stack = tags_fall f.stack g.stack b.stack h.stack; locals = tags_fall f.locals g.locals b.locals h.locals })
       (λ f h. record { stack = hides_first Untagged [] refl hides_none; locals = h.locals })
       (λ j other next g d t k h. op_hides other.pc

@@ -109,7 +109,8 @@ module _ (building : Building) (h : ℕ) (null : IsFinished building.w building.
       let at = method_at c marked number called there in
       land building h null false (entry_frame number called args) called at.frames at.tags (types.entry_type_frame called) (entry_tags called) there at.its_types at.its_tags at.holds.types.entry at.holds.sound.entry
       (λ own j other next' u at starts. let parts = both_are_true (is_init called) (frozen called.class) own in
-      (are.those called.class parts.1 number called there refl parts.0).entered other next' u (subst (λ (i : ℕ). IsAt c.program (tags_of c) number i called other next' u) (is_first j other next' u at starts) at))
+      (are.those called.class parts.1 number called there refl parts.0).entered other next' u
+      (subst (λ (i : ℕ). IsAt c.program (tags_of c) number i called other next' u) (is_first j other next' u at starts) at))
       (record {
         put = λ j other next u at starts. first_plain c marked owning owns number j called other next u at (is_first j other next u at starts);
         arrays = λ j other next u at starts. tt;

@@ -400,7 +400,10 @@ module _ (lies : StartLiesApart) (structure : StructureIsKept) (state : BuiltSta
       arrays_are n word h =
           let held : IsNullOr (HasClass objects) INT_ARRAY_CLASS put = subst (λ (kind : Kind). KindHolds (HasClass objects) kind put) (kind_is allowed_it.1 allowed_it.2) allowed_it.3 in
           elim (cases_Bool (n == it.array)) [
-            | inl q ↦ elim held [ inl z ↦ absurd (zero_apart (sym z ∙ it.value)) | inr k ↦ (k.1.0, k.1.1, k.1.2 ∙ (it.value ∙ sym (eqb-true n it.array q)), k.1.3 ∙ leaves_alone k.0 INT_ARRAY_CLASS refl k.2) ]
+            | inl q ↦ elim held [
+              | inl z ↦ absurd (zero_apart (sym z ∙ it.value))
+              | inr k ↦ (k.1.0, k.1.1, k.1.2 ∙ (it.value ∙ sym (eqb-true n it.array q)), k.1.3 ∙ leaves_alone k.0 INT_ARRAY_CLASS refl k.2)
+            ]
             | inr q ↦ con.places.stored n word (rw q at h)
           ]
 

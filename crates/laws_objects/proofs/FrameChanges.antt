@@ -85,9 +85,12 @@ module _ (p : Program) (at : Top) where
   instruction_goes top (Throws x) got = inl (stay_same (frames_of at))
   instruction_goes top (Reads v) got = inl (went_goes at.insn.next got)
   instruction_goes top (Measures array) got = inl (went_goes at.insn.next (header_length got))
-  instruction_goes top (Raises x) got = elim (thrown_of (header_class got)) as (λ (o : Option Thrown). Done (option_map (λ class. Throwing x class (frames_of at)) o)) [ None ↦ tt | Some class ↦ inl (stay_same (frames_of at)) ]
-  instruction_goes top (Calls number) got = elim (slice_get p.methods number) as (λ (o : Option MethodInfo). Done (option_map (called p at number) o)) [ None ↦ tt | Some m ↦ inl (called_goes number m (has_room p (frames_of at) m)) ]
-  instruction_goes top Returns got = elim (is_synchronized at.method.flags) as (λ (b : Bool). OnwardGoes p (frames_of at) (if b then Leaving (monitor_of p at.method at.frame) Return (frames_of at) else back (returned p at)))
+  instruction_goes top (Raises x) got = elim (thrown_of (header_class got)) as (λ (o : Option Thrown). Done (option_map (λ class. Throwing x class (frames_of at)) o))
+      [ None ↦ tt | Some class ↦ inl (stay_same (frames_of at)) ]
+  instruction_goes top (Calls number) got = elim (slice_get p.methods number) as (λ (o : Option MethodInfo). Done (option_map (called p at number) o))
+      [ None ↦ tt | Some m ↦ inl (called_goes number m (has_room p (frames_of at) m)) ]
+  instruction_goes top Returns got = elim (is_synchronized at.method.flags) as (λ (b : Bool). OnwardGoes p (frames_of at)
+      (if b then Leaving (monitor_of p at.method at.frame) Return (frames_of at) else back (returned p at)))
       [ true ↦ inl (stay_same (frames_of at)) | false ↦ inr (at, top, refl) ]
   instruction_goes top e got = first_of (assumption, search (inl, went_goes at.insn.next 0))
 
@@ -336,7 +339,8 @@ module _ (c : MarkedProgram) (was : Phase) (x : Thread) where
     move_goes _ (moves.finishes_try m a t k e y) is stands inside = goes_behind a (elided s)
         (record { frames = refl; tries = (subst (λ (o : Option Attempt). AttemptFrom o None) (sym (tried_attempt m (held_at x.held m) x.attempt t k)) tt); known = λ w next t k. k }) (leaves_carry m a is)
     move_goes _ (moves.starts number roots e) is stands inside =
-        starts_go (subst (λ (p : Phase). Stands c p x.frames x.held x.attempt) is stands).phase_shows (record s { roots = roots }) (record { frames = refl; tries = from_same x.attempt; known = λ w next t k. k })
+        starts_go (subst (λ (p : Phase). Stands c p x.frames x.held x.attempt) is stands).phase_shows (record s { roots = roots })
+        (record { frames = refl; tries = from_same x.attempt; known = λ w next t k. k })
         (option_map (rooted c.program x.number number) (slice_get c.program.methods number))
     move_goes phase k is stands inside = still (becomes c s got phase k) refl (from_same x.attempt)
 

@@ -82,7 +82,8 @@ module _ (c : MarkedProgram) (was : Phase) (x : Thread) (structured : IsStructur
   pub by_writer : (P : List Frame → Type 0) → ((f : Frame) (fs : List Frame) → Stands c Run (f ∷ fs) x.held None → IsSuch f → P (f ∷ fs)) → P x.frames
   by_writer P each =
       let is_run : was ≡ Run = subst (λ (phase : Phase). IsAs phase was) k.runs structured.is_as in
-      by_top c x.held IsSuch P each x.frames (subst (λ (a : Option Attempt). Stands c Run x.frames x.held a) outside (subst (λ (phase : Phase). Stands c phase x.frames x.held x.attempt) is_run structured.stands)) k.top
+      by_top c x.held IsSuch P each x.frames (subst (λ (a : Option Attempt). Stands c Run x.frames x.held a) outside
+      (subst (λ (phase : Phase). Stands c phase x.frames x.held x.attempt) is_run structured.stands)) k.top
 
 -- ---- the thread that stores an element
 

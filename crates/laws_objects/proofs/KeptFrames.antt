@@ -116,7 +116,8 @@ module _ (building : Building) (z : World) (more : ℕ) (grows : building.next �
     item = k.item;
     not_begun = k.not_begun;
     now = keeps (length fs - 1) a Header k.now;
-    keep = frames_kept (in_world building (made_world w a t (length fs - 1) k.item)) (made_world z a t (length fs - 1) k.item) more (made_old w z next more a t (length fs - 1) k.item old grows) Runs (pushed a fs)
+    keep = frames_kept (in_world building (made_world w a t (length fs - 1) k.item)) (made_world z a t (length fs - 1) k.item) more
+        (made_old w z next more a t (length fs - 1) k.item old grows) Runs (pushed a fs)
         (λ h l. made_keeps w z t h a (length fs - 1) k.item (keeps h)) k.keep;
   }
   phase_frames_kept phase fs k = frames_kept building z more old (turn_by (operands_in phase)) fs (λ h l. keeps h) k

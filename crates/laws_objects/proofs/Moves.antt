@@ -127,7 +127,8 @@ module _ (Old More : ℕ → Type 0) (Fresh Later : ℕ → ℕ → Type 0) (you
   pub slots_finished : (class receiver : ℕ) (own : Bool) (us : List VType) (gs : List Tag) (vs : List ℕ) → SlotsAre (SlotIs Old Fresh own young receiver) us gs vs → SlotsAre (SlotIs More Later own young receiver) (initialised (types.New q) class us) gs vs
   slots_finished class receiver own [] [] [] f = tt
   slots_finished class receiver own (u ∷ us) (g ∷ gs) (v ∷ vs) f = (
-    slot_by Old More Fresh Later young receiver own u (after_type class u) g v (λ n. elim (same_type (types.New q) u) as (λ (b : Bool). (if b then types.Ref class else u) ≢ types.This) [ true ↦ λ e. cc | false ↦ n ])
+    slot_by Old More Fresh Later young receiver own u (after_type class u) g v (λ n. elim (same_type (types.New q) u) as (λ (b : Bool). (if b then types.Ref class else u) ≢ types.This)
+        [ true ↦ λ e. cc | false ↦ n ])
         (type_finished class u v) f.0,
     slots_finished class receiver own us gs vs f.1,
   )

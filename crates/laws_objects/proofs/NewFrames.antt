@@ -98,7 +98,11 @@ module _ (lawful : LawfulBuilding) (more h : ℕ) (grows : lawful.next < more) (
   module _ (f : Frame) (k : FrameIn building h Runs f) (type : VType) (edge : OneOf (edges k.stands.insn) k.stands.insn.next) (behind : AreBehind pc k.stands.types) (gives : (row_at c f k.stands).gives ≡ Anew type ∷ []) (writes : (row_at c f k.stands).writes ≡ None)
       (none : AllByRecursion StartsNone (row_at c f k.stands).takes) (plain : puts_owned owning.owned k.stands.insn.op k.stands.target ≡ false) where
     same : frame_on (row_at c f k.stands) k.stands.insn.next next f ≡ record f { pc = k.stands.insn.next; stack = next ∷ drop (length (row_at c f k.stands).takes) f.stack }
-    same = λ i. record f { pc = k.stands.insn.next; stack = map (value_of 0 (λ t. next) f.stack f.locals) (gives i) ++ drop (length (row_at c f k.stands).takes) f.stack; locals = locals_after 0 (λ t. next) (writes i) f.stack f.locals }
+    same = λ i. record f {
+      pc = k.stands.insn.next;
+      stack = map (value_of 0 (λ t. next) f.stack f.locals) (gives i) ++ drop (length (row_at c f k.stands).takes) f.stack;
+      locals = locals_after 0 (λ t. next) (writes i) f.stack f.locals;
+    }
 
     nothing : started k.stands.method.class (row_at c f k.stands).takes k.stands.types.stack ≡ None
     nothing = none_started k.stands.method.class (row_at c f k.stands).takes k.stands.types.stack none

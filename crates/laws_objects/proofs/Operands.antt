@@ -125,4 +125,5 @@ module _ (building : Building) where
       taken_old k.stands.method (IsFinished w next) null (IsFresh w t h Runs) (builds frozen k.stands.method) (makes_frozen frozen k.stands.method) f.receiver (row_at c f k.stands).takes k.stands.types.stack k.stands.tags.stack f.stack
       (λ own. takes_no_this (row_at c f k.stands).takes k.stands.tags.stack
       (λ n l e this. (let may = (inside_at design f k.stands own).taken k.stands.number k.stands.insn k.stands.target k.stands.tags k.stands.at n l this in
-      let free = (object_free c.program k.stands.method k.stands.insn.pc k.stands.method.class k.stands.insn.op k.stands.target n e).0 get in cc))) (suit_at c marked f k.stands) (plain_stack building h f k plain)
+      let free = (object_free c.program k.stands.method k.stands.insn.pc k.stands.method.class k.stands.insn.op k.stands.target n e).0 get in cc))) (suit_at c marked f k.stands)
+      (plain_stack building h f k plain)

@@ -147,6 +147,7 @@ tags_many p m frames tags laid typed tagged fits =
       start = entry_many m fits;
       rises = λ g h f e k. record { stack = k.stack ∙ pairs_length g.stack h.stack (stack_below g h e); locals = k.locals ∙ pairs_length g.locals h.locals (locals_below g h e) };
       meets = λ g f h a b. record { stack = meets_long f.stack h.stack (a.stack ∙ sym b.stack) ∙ a.stack; locals = meets_long f.locals h.locals (a.locals ∙ sym b.locals) ∙ a.locals };
-      onward = λ insn target g f k. let r : OpRow = row p m insn.pc target insn.op in after_start_many (started m.class r.takes g.stack) _ (tags_after insn r f) (by_op_many p m insn.pc target insn.op g f k);
+      onward = λ insn target g f k. let r : OpRow = row p m insn.pc target insn.op in after_start_many (started m.class r.takes g.stack) _ (tags_after insn r f)
+          (by_op_many p m insn.pc target insn.op g f k);
       caught = λ handler g f k. record { stack = refl; locals = k.locals };
     }) tags tagged

@@ -38,7 +38,8 @@ module _ (c : MarkedProgram) (was : Phase) (v : ℕ) (s : Core) (t : ℕ) (k : T
 
   pub goes_away : FramesGo c was k.thread k.later → GoesAway
   goes_away (inl stays) =  -- frames are more than those below their top
-      let there = subst (Stay k.thread.frames) k.gone stays.frames (length k.below) k.frame (subst (λ (gs : List Frame). frame_at (length k.below) gs ≡ Some k.frame) (sym k.frames) (top_here k.frame k.below)) in
+      let there = subst (Stay k.thread.frames) k.gone stays.frames (length k.below) k.frame
+      (subst (λ (gs : List Frame). frame_at (length k.below) gs ≡ Some k.frame) (sym k.frames) (top_here k.frame k.below)) in
       absurd (let few = counted_below (length k.below) k.below there.0 there.1 in omega (arith, few))
   goes_away (inr (inl r)) = absurd (back_throws_not r.from (returned c.program r.at) k.thrown k.class (ap (λ (z : Thread). z.phase) (sym r.is) ∙ k.throws))
   goes_away (inr (inr (inl u))) = record {

@@ -113,8 +113,10 @@ module _ (building : Building) (later : World) (more t : ℕ) (goes : GoesOn bui
   pub other_keeps : (was : Phase) (x : Thread) → IsWorld w (words_of c.program) next → ThreadIn building was x → ThreadIn (in_later building later more) was x
   other_keeps was x world k =
       let by = merged_by k.now x.attempt k.now_is in
-      let old : (v : ℕ) → IsFinished k.now next v → IsFinished (merged u w k.now later) more v = λ v f. ((let l = f.0 in let g = goes.grows in omega (arith, l, g)), by v (λ (o : Option Builder). o ≡ None) (λ o. f.1) (λ n. goes.finished v (f.0, sym (k.now_is.others v n) ∙ f.1))) in
-      let keeps : (h : ℕ) → KeepsAt k.now (merged u w k.now later) u h = λ h v i e. by v (λ (o : Option Builder). o ≡ Some (builder u h i)) (λ m. e) (λ n. absurd (n (builder u h i) (sym (k.now_is.others v n) ∙ e) refl)) in
+      let old : (v : ℕ) → IsFinished k.now next v → IsFinished (merged u w k.now later) more v = λ v f.
+      ((let l = f.0 in let g = goes.grows in omega (arith, l, g)), by v (λ (o : Option Builder). o ≡ None) (λ o. f.1) (λ n. goes.finished v (f.0, sym (k.now_is.others v n) ∙ f.1))) in
+      let keeps : (h : ℕ) → KeepsAt k.now (merged u w k.now later) u h = λ h v i e. by v (λ (o : Option Builder). o ≡ Some (builder u h i)) (λ m. e)
+      (λ n. absurd (n (builder u h i) (sym (k.now_is.others v n) ∙ e) refl)) in
       let known = merged_known k.now x.attempt k.now_is in
       record {
         now = merged u w k.now later;
