@@ -28,7 +28,8 @@ module _ (c : MarkedProgram) (x : Thread) (got : ℕ) (at : Top) (m : ℕ) (fs :
       let moves : moved c x x.phase got ≡ goes_on (begun x) (Entering m fs) =
       ap (λ (phase : Phase). moved c x phase got) is_run
       ∙ ap (λ (o : Option Top). ran c.program x o got) top
-      ∙ instructed_goes c.program at got m fs x (effect_at c.program at) (λ a tries failed. never a tries (ap (λ (phase : Phase). fate c x a phase got) is_run ∙ ap (λ (o : Option Top). run_fate c a o got) top ∙ failed))
+      ∙ instructed_goes c.program at got m fs x (effect_at c.program at)
+      (λ a tries failed. never a tries (ap (λ (phase : Phase). fate c x a phase got) is_run ∙ ap (λ (o : Option Top). run_fate c a o got) top ∙ failed))
       ∙ did_enter c.program at got m fs (begun x) (effect_at c.program at) comes in
       subst (λ (y : Thread). IsToEnter x y m fs) (sym moves) (record { enters = refl; frames = refl; turns = refl; held = refl; attempt = refl })
 

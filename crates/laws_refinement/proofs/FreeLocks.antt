@@ -71,7 +71,8 @@ module _ (c : MarkedProgram) (x : Thread) (m n got : ℕ) (last : n < x.cfg.rang
 
     release_leaves : (b : ℕ) (h : Held) (k : Kept) → held_at x.held b ≡ Some h → h.kept ≡ k → Some (release x b k) ≡ Some access → Suits (leave_content (Has (record h { kept = k }))) (LockOf m) → WasNoted (left_by access got)
     release_leaves b h (keeps.Flat count) e k w suits =
-        leaves WasNoted access got stays (release x b (keeps.Flat count)) w (swapped (word_of_lock (locks.Held x.number)) (freed x count) (freed_of b count h e k (let same : release x b (keeps.Flat count) ≡ access = cc in ap accessed same ∙ at)))
+        leaves WasNoted access got stays (release x b (keeps.Flat count)) w (swapped (word_of_lock (locks.Held x.number)) (freed x count)
+        (freed_of b count h e k (let same : release x b (keeps.Flat count) ≡ access = cc in ap accessed same ∙ at)))
     release_leaves b h (keeps.Fat r) e k w suits = absurd suits
 
     finish_leaves : (b inner : ℕ) → finish_wants b inner ≡ Some access → WasNoted (left_by access got)

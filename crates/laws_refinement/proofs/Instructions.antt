@@ -143,7 +143,8 @@ module _ (fit : HeapWordsFit) (allowed : EffectsAreAllowed) (trying : Trying) (r
   does (Reads v) f k =
       let named = does_at (Reads v) f in
       loads (Reads v) (variable_word v) (Running (went_on c.program at (slice_index s.words (variable_word v))))
-      (variable_stays trying (frames_as trying phases.Run counted) at at_top v named.1 (top_reads c x.frames x.held a at marked attempt_stands stands at_top) f k named.2) refl refl refl (λ memory. refl) (λ memory. refl)
+      (variable_stays trying (frames_as trying phases.Run counted) at at_top v named.1 (top_reads c x.frames x.held a at marked attempt_stands stands at_top) f k named.2) refl refl refl
+      (λ memory. refl) (λ memory. refl)
   does (Measures v) f k =
       loads (Measures v) (header_word v) (Running (went_on c.program at (header_length (slice_index s.words (header_word v)))))
       (header_stays trying (frames_as trying phases.Run counted) at at_top _ v (does_at (Measures v) f).1) refl refl refl (λ memory. refl) (λ memory. refl)
@@ -234,5 +235,6 @@ module _ (fit : HeapWordsFit) (allowed : EffectsAreAllowed) (trying : Trying) (r
         → ByFate c.program Keeps s.words x a (was t) now phases.Run (run_fate c a o (found_by s.words (run_wants c.program x o))) (ran c.program x o (found_by s.words (run_wants c.program x o))) (run_acts c x o (found_by s.words (run_wants c.program x o)))
 
     pub runs_by_fate : RunsBy (top_of c.program x.frames)
-    runs_by_fate = subst RunsBy (sym at_top) (instructed_by (λ y fate. IsStructured c now y → ByFate c.program Keeps s.words x a (was t) now phases.Run fate y (instruction_acts x its got)) c.program a (begun x) at its got tries
+    runs_by_fate = subst RunsBy (sym at_top) (instructed_by (λ y fate. IsStructured c now y → ByFate c.program Keeps s.words x a (was t) now phases.Run fate y
+        (instruction_acts x its got)) c.program a (begun x) at its got tries
         (grows_by (does its refl (inside_may c x.frames x.held a at marked attempt_stands stands at_top))) (λ k. refl))

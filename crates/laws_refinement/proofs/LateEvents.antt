@@ -54,7 +54,8 @@ module _ (p : Program) (a : Attempt) where
 
   runs_with : (n k inner : ℕ) (s : Thread) → s.attempt ≡ Some (record a { inner = inner }) → k + all_ahead p a.base s.frames ≤ n → Falls n k (runs s)
   runs_with n k inner s is h =
-      let few : left_in p a.base (runs s).phase s.frames ≤ all_ahead p a.base s.frames = elim (nat_lt s.counts.instructions s.cfg.steps) as (λ (b : Bool). left_in p a.base (if b then phases.Run else phases.Ending Steps) s.frames ≤ all_ahead p a.base s.frames) [ true ↦ omega arith | false ↦ omega arith ] in
+      let few : left_in p a.base (runs s).phase s.frames ≤ all_ahead p a.base s.frames = elim (nat_lt s.counts.instructions s.cfg.steps) as
+      (λ (b : Bool). left_in p a.base (if b then phases.Run else phases.Ending Steps) s.frames ≤ all_ahead p a.base s.frames) [ true ↦ omega arith | false ↦ omega arith ] in
       goes_on_with n k inner (runs s) is (omega (arith, h, few))
 
   goes : (n k inner : ℕ) (s : Thread) (o : Onward) → s.attempt ≡ Some (record a { inner = inner }) → k + left_on p a.base o ≤ n → Falls n k (goes_on s o)

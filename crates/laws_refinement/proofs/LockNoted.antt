@@ -55,5 +55,9 @@ module _ (c : MarkedProgram) (cfg : Config) (objects : List Object) (was : ℕ �
         stands.phase_shows.flat
 
     pub noted_before : KnownSites → IsMarked c → IsAsNoted (words_after s.words (wanted c x x.phase)) a → IsAsNoted s.words a
-    noted_before sites marked now = elim (word_at (heap_mover c marked objects s facts.heap t x there (facts.threads.lawful t x there)) sites (LockOf a.monitor) has_monitor)
-        [ inl e ↦ sym e ∙ now | inr k ↦ phase_leaves c x a.monitor a.noted (slice_index s.words a.monitor) (subst (λ (g : Config). a.noted < g.range) ((facts.threads.own u y there_too).settings ∙ sym (facts.threads.own t x there).settings) saw.not_last) kept k.access k.word x.phase flat_out k.wants k.suits (sym k.left ∙ now) ]
+    noted_before sites marked now = elim (word_at (heap_mover c marked objects s facts.heap t x there (facts.threads.lawful t x there)) sites (LockOf a.monitor) has_monitor) [
+      | inl e ↦ sym e ∙ now
+      | inr k ↦ phase_leaves c x a.monitor a.noted (slice_index s.words a.monitor)
+          (subst (λ (g : Config). a.noted < g.range) ((facts.threads.own u y there_too).settings ∙ sym (facts.threads.own t x there).settings) saw.not_last)
+          kept k.access k.word x.phase flat_out k.wants k.suits (sym k.left ∙ now)
+    ]

@@ -281,8 +281,8 @@ module _ (fit : HeapWordsFit) (allowed : EffectsAreAllowed) (trying : Trying) (n
 
   by_phase : (phase : Phase) → x.phase ≡ phase → IsAs phase (was t) → KnownInside c x a phase → EventInside phase
   by_phase phases.Run e k known = runs_by_fate fit allowed trying e known.at known.found now
-  by_phase (phases.Throw y class) e k known = checked (λ z f. IsStructured c now z → By (phases.Throw y class) f z (Do ∷ [])) a x (goes_on_if x (dispatched c.program y class x.frames)) (found_in (phases.Throw y class)) x.attempt tries
-      (throw_grows y class k) (λ l. refl)
+  by_phase (phases.Throw y class) e k known = checked (λ z f. IsStructured c now z → By (phases.Throw y class) f z (Do ∷ [])) a x (goes_on_if x (dispatched c.program y class x.frames))
+      (found_in (phases.Throw y class)) x.attempt tries (throw_grows y class k) (λ l. refl)
   by_phase (phases.Enter m tried) e k known = subst (EnterBy m tried k known) (sym known) (enter_grows m tried k known)
   by_phase (phases.Leave m after) e k known = subst (LeaveBy m after k known) (sym known) (by_inner m after k known a.inner refl)
   by_phase (phases.Ending reason) e k known = λ l. limited reason (phases.Ending reason) (phases.Ended reason) (refl, tt) (λ n. refl) k l.is_as

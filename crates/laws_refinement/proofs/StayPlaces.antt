@@ -219,7 +219,8 @@ module _ (trying : Trying) (frames_keep : FramesKeep trying.c trying.frozen tryi
   top_known field v rest puts row top some =
       let first = first_slot (SlotOf frozen keeps.now next t slots.height Runs at.method at.frame.receiver) slots.types.stack slots.tags.stack v rest
       (subst (λ (vs : List ℕ). SlotsAre (SlotOf frozen keeps.now next t slots.height Runs at.method at.frame.receiver) slots.types.stack slots.tags.stack vs) top
-      (subst (λ (b : Bool). StackWith (SlotOf frozen keeps.now next t slots.height Runs at.method at.frame.receiver) (λ v. keeps.now v ≡ Some (builder t slots.height Unstored)) b slots.types.stack slots.tags.stack at.frame.stack) puts slots.stack)) in
+      (subst (λ (b : Bool). StackWith (SlotOf frozen keeps.now next t slots.height Runs at.method at.frame.receiver)
+      (λ v. keeps.now v ≡ Some (builder t slots.height Unstored)) b slots.types.stack slots.tags.stack at.frame.stack) puts slots.stack)) in
       let below = top_suits at.method (top_row c.program at) field slots.types first.type first.more row first.first slots.suit in
       known v (slot (IsFinished keeps.now next) (IsFresh keeps.now t slots.height Runs) (makes_frozen frozen at.method) at.frame.receiver v some (builds frozen at.method) first.type first.tag (of_object first.type field.class below) first.is)
 
@@ -262,7 +263,8 @@ module _ (trying : Trying) (frames_keep : FramesKeep trying.c trying.frozen tryi
           cc
 
       of_class : object.class ≡ names.field.class
-      of_class = holder.2.3 ∙ files_alone holder.1 f.class (marked.checked.program.fields named.number f named.there).class.0 holder.3 ∙ ap (λ (g : FieldInfo). g.class) (same_some (sym named.there ∙ names.is))
+      of_class = holder.2.3 ∙ files_alone holder.1 f.class (marked.checked.program.fields named.number f named.there).class.0 holder.3 ∙ ap (λ (g : FieldInfo). g.class)
+          (same_some (sym named.there ∙ names.is))
 
       field_at : IsFieldAt c objects w next t named.number (variable_word v) object
       field_at = record {

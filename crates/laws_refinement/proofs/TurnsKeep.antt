@@ -92,7 +92,8 @@ module _ (given : GivenIsKept) (c : MarkedProgram) (s : Core) where
   round_fits : (from : ℕ) → IsWaiting s → TurnFits c s (round_turn_from s from)
   round_fits from h = (elim (option_or (live_from s from) (live_from s 1)) as (λ (o : Option ℕ). option_or (live_from s from) (live_from s 1) ≡ o → TurnFits c s (round_turn s o)) [
     | None ↦ λ e. (elim (may_begin s.threads) as (λ (b : Bool). NoWorkerLives s → may_begin s.threads ≡ b → TurnFits c s (if b then turn_of NextPart Last else None))
-        [ true ↦ λ dead may. done_begins c s h dead may | false ↦ λ dead may. over s h.first dead may ]) (none_live s ((elim (live_from s from) as (λ (o : Option ℕ). option_or o (live_from s 1) ≡ None → live_from s 1 ≡ None) [ None ↦ λ e. e | Some u ↦ λ e. absurd (cc) ]) e)) refl
+        [ true ↦ λ dead may. done_begins c s h dead may | false ↦ λ dead may. over s h.first dead may ])
+        (none_live s ((elim (live_from s from) as (λ (o : Option ℕ). option_or o (live_from s 1) ≡ None → live_from s 1 ≡ None) [ None ↦ λ e. e | Some u ↦ λ e. absurd (cc) ]) e)) refl
     | Some t ↦ λ e. event_waits given c s t h
   ]) refl
 
