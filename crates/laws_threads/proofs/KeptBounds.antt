@@ -154,9 +154,7 @@ module _ (c : MarkedProgram) (s : Thread) (got : ℕ) where
   goes_bounded _ _ (moves.by_object a word) b = goes c.program s (Running (pushed a s.frames)) tt (fit (phases.Made a word) tt b) (spent (phases.Made a word) tt b)
   goes_bounded _ _ (moves.by_handler x class at found) b =
       goes c.program s (handed c.program x class at (handler_at (class_of class) at)) (handed_enters_none c.program x class at (handler_at (class_of class) at)) (fit (phases.Throw x class) tt b) (spent (phases.Throw x class) tt b)
-  goes_bounded _ _ (moves.by_none m r t) b = goes c.program s (Running s.frames) tt (fit (phases.NotifyLook m r) tt b) (spent (phases.NotifyLook m r) tt b)
-  goes_bounded _ _ (moves.by_one m r u) b = goes c.program s (Running s.frames) tt (fit (phases.NotifyOne m r u) tt b) (spent (phases.NotifyOne m r u) tt b)
-  goes_bounded _ _ (moves.by_all m r) b = goes c.program s (Running s.frames) tt (fit (phases.NotifyAll m r) tt b) (spent (phases.NotifyAll m r) tt b)
+  goes_bounded was _ k b = goes c.program s (Running s.frames) tt (fit was tt b) (spent was tt b)
 
   -- a phase that asks for nothing of its own
   to : (phase now : Phase) → IsUnderWay phase → Ready phase → PhaseFits now → (s.turns < s.cfg.turns → TurnsFit now s.turns s.cfg.turns) → (s.counts.instructions ≤ s.cfg.steps → StepsFit now s.counts.instructions s.cfg.steps)
@@ -170,17 +168,14 @@ module _ (c : MarkedProgram) (s : Thread) (got : ℕ) where
   leads_bounded phase _ (moves.to_take_fat m r k e) b w = to phase (phases.TakeFat m r) (looks_in IsUnderWay m phase k (λ tried. tt) tt) b (subst LockFits e (lock_at m phase k w)) (λ few. few) (λ few. few) tt tt
       (spent_on_entry phase (looks_in IsEntry m phase k (λ tried. tt) tt) b)
   leads_bounded _ _ (moves.from_flag m u) b w = to (phases.Flag m u) (phases.Acquire m) tt b tt (λ few. few) (λ few. few) tt tt (spent_on_entry (phases.Flag m u) tt b)
-  leads_bounded _ _ (moves.to_grow m count a h e t l) b w = to (phases.Leave m a) (phases.Grow m (towards.Leave a)) tt b tt (λ few. few) (λ few. few) tt tt (spent (phases.Leave m a) tt b)
   leads_bounded _ _ (moves.to_own m toward e) b w = to (phases.Grow m toward) (phases.Own m got toward) tt b (grind (arith, nat_tests, e)) (λ few. few) (λ few. few) tt tt (spent (phases.Grow m toward) tt b)
-  leads_bounded _ _ (moves.to_flat_out m a e) b w = to (phases.Grow m (towards.Leave a)) (phases.FlatOut m a) tt b tt (λ few. few) (λ few. few) tt tt (spent (phases.Grow m (towards.Leave a)) tt b)
   leads_bounded _ _ (moves.to_no_record m e) b w = to (phases.Grow m towards.Wait) (phases.Ending ends.Records) tt b tt (λ few. few) (λ few. few) tt tt (less (spent (phases.Grow m towards.Wait) tt b))
-  leads_bounded _ _ (moves.to_fat_in m r toward) b w = to (phases.Own m r toward) (phases.FatIn m r toward) tt b b.phase (λ few. few) (λ few. few) tt tt (spent (phases.Own m r toward) tt b)
-  leads_bounded _ _ (moves.to_wait_out m r) b w = to (phases.WaitBit m r) (phases.WaitOut m r) tt b b.phase (λ few. few) (λ few. few) tt tt (spent (phases.WaitBit m r) tt b)
   leads_bounded _ _ (moves.to_retake m r depth e) b w = to (phases.WaitLook m r depth) (phases.Retake m r depth) tt b b.phase (λ few. few) (λ few. few) b.waits tt (spent (phases.WaitLook m r depth) tt b)
   leads_bounded _ _ (moves.to_notify_one m r e) b w = to (phases.NotifyLook m r) (phases.NotifyOne m r (lowest_of got)) tt b (b.phase, lowest_few got) (λ few. few) (λ few. few) tt tt (spent (phases.NotifyLook m r) tt b)
   leads_bounded _ _ (moves.to_end e) b w = ended c.program s e b
   leads_bounded _ _ (moves.to_element at array index stored e f t) b w = to phases.Run (phases.Element (value_word array (low index)) stored) tt b tt (λ few. few) (λ few. few) tt tt (spent phases.Run tt b)
   leads_bounded _ _ (moves.to_no_print at v e l t) b w = to phases.Run (phases.Ending ends.Prints) tt b tt (λ few. few) (λ few. few) tt tt (less (spent phases.Run tt b))
+  leads_bounded was now k b w = let fits = b.phase in to was now tt b (assumption) (λ few. few) (λ few. few) tt tt (spent was tt b)
 
   -- by a turn that failed
   turn : (phase now : Phase) → IsUnderWay phase → Ready phase → PhaseFits now → (s.turns + 1 < s.cfg.turns → TurnsFit now (s.turns + 1) s.cfg.turns) → (s.counts.instructions ≤ s.cfg.steps → StepsFit now s.counts.instructions s.cfg.steps)

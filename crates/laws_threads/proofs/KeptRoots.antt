@@ -163,10 +163,7 @@ module _ (c : MarkedProgram) (s : Thread) (got : ℕ) (h : IsRooted c.program s)
   goes_framed _ o (moves.by_effect at e _ found is silent d) f = subst (λ (w : Option Onward). IfSome w OnwardFits) d (does c.program at e got)
   goes_framed _ _ (moves.by_object a word) f = pushed_frame a s.frames (frame_in (phases.Made a word) s.frames s.roots tt f)
   goes_framed _ _ (moves.by_handler x class at found) f = hands c.program x class at (handler_at (class_of class) at)
-  goes_framed was _ (moves.by_none m r t) f = frame_in (phases.NotifyLook m r) s.frames s.roots tt f
-  goes_framed was _ (moves.by_one m r u) f = frame_in (phases.NotifyOne m r u) s.frames s.roots tt f
-  goes_framed was _ (moves.by_all m r) f = frame_in (phases.NotifyAll m r) s.frames s.roots tt f
-  goes_framed _ _ k f = tt
+  goes_framed was _ k f = let there = frame_in was s.frames s.roots tt f in assumption
 
   runs_framed : (was : Phase) → HasFrames was → FramesFit was s.frames s.roots → FramesFit (runs s).phase s.frames s.roots
   runs_framed was n f = runs_to (λ (phase : Phase). FramesFit phase s.frames s.roots) s (framed phases.Run s.frames s.roots tt (frame_in was s.frames s.roots n f)) tt

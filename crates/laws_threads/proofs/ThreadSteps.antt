@@ -7,16 +7,16 @@ use Rattle.jvm_types.specs.declared.program.{MethodInfo.MethodInfo, Row.Row}
 use Rattle.checked_program.specs.MarkedProgram.{MarkedProgram, IsMarked}
 use Rattle.machine_types.specs.{Bounds.{IsRooted, part_roots}, Elision.{may_try, enters_marked}, Events.{thread_started, element_made, moved}, Going.{with_phase, failed_turn, goes_on, goes_on_if}}
 use Rattle.machine_types.specs.{Frames.{Top, top_of, frames_of, went_on, pushed, has_room, entry_frame, monitor_of, handler_at}, HeldMonitors.{held_at, without_held}, ReadyObjects.class_of}
-use Rattle.machine_types.specs.{Monitors.{lets_go, lowest_of, HasNot, claim}, Onward.{Running, Leaving, Uncaught, rooted, root_arguments, handed, unwound, Onward}, Shown.Show, declared.lock.Held.Held}
+use Rattle.machine_types.specs.{Monitors.{lets_go, HasNot, claim}, Onward.{Running, Leaving, Uncaught, rooted, root_arguments, handed, unwound, Onward}, Shown.Show, declared.lock.Held.Held}
 use Rattle.machine_types.specs.{Standing.{Whole, Thrown}, Structure.{Stands, AttemptStandsIn, IsStructured, IsAs, IsLimitAt, IsPhaseInside, count_in}, Threads.{Frame, Attempt, Thread}}
 use Rattle.machine_types.specs.{Typed.{Classes, AfterHolds, PhaseHolds, ThreadHolds}, declared.{lock.Kept.Kept, phase.{After.After, Phase.Phase}}}
 use Rattle.laws_threads.{specs.{InsideMoves.{BeginsAttempt, EntersInside}, StructureLaws.{StaysStructured, StructureIsKept, counted_by, turned_from}}, proofs.{FrameCalls.roots_law, Tests.either_way}}
 use Rattle.laws_threads.proofs.{FramePlaces.tops_stand_law, FrameThrows.{caught_law, unwound_law}, GoingOn.{unwound_shows, pushed_frame, OnwardShows, none_goes_on, each_goes_on, onward_stands, going}}
 use Rattle.laws_threads.proofs.MonitorEntries.{from_take, from_flag, from_take_fat, takes_next, takes_fat_next, looks_again, flags, turned_back, turned_back_fat, looks_at_lock, taken, again, to_acquire, begun, deeper_inside, none_tried}
 use Rattle.laws_threads.proofs.{MoveProofs.{elements_law, pushed_law}, Releases.{AtExit, left_with, left_deeper, left_last, grows_first, left_elided, left_inside}, Roots.{IsSomeRoot, part_root}}
-use Rattle.laws_threads.proofs.{Steps.elements_inside, Throws.throws_inside, Turns.{no_try, failing, no_attempt, outside}}
+use Rattle.laws_threads.proofs.{Steps.elements_inside, Throws.throws_inside, Turns.{TurnsIn, no_try, failing, no_attempt, outside, running, turning}}
 use Rattle.laws_threads.proofs.ThreadMove.{if_either, Looks, Lacks, GoesBy, Checks, LeadsTo, TurnsTo, Takes, GivesUp, Move, becomes, mover, by_move, of_mover, not_held, tried_attempt, tried_monitor}
-use Rattle.laws_threads.proofs.Waits.{to_own, not_grown, to_fat_in, fattened, to_wait_out, given_up, waits_on, to_retake, retakes_not, retaken, notified, to_notify_one, notified_one, notified_all}
+use Rattle.laws_threads.proofs.Waits.{fattened, given_up, retaken}
 use Rattle.jvm_types.specs.declared.outcome.End.TheVariants as ends
 use Rattle.jvm_types.specs.declared.outcome.Thrown as outcomes
 use Rattle.machine_types.specs.Lawful as lawful
@@ -148,9 +148,8 @@ module _ (begin : BeginsAttempt) (entered_again : EntersInside) (is : Classes) (
   goes_keeps _ _ (moves.by_element word stored top t) here e = element_keeps c marked was s word stored (element_made stored got) (at (phases.Element word stored) e) (within (phases.Element word stored) e) top t
   goes_keeps _ _ (moves.by_object a word) here e = made_keeps c marked was s a word (at (phases.Made a word) e) (none_in (phases.Made a word) (λ m k. k) e)
   goes_keeps _ _ (moves.by_handler x class top t) here e = throw_keeps c marked was s x class (at (phases.Throw x class) e) top t (within (phases.Throw x class) e)
-  goes_keeps _ _ (moves.by_none m r f) here e = from (phases.NotifyLook m r) _ e (notified c s m r (none_in (phases.NotifyLook m r) (λ n k. k) e) (at (phases.NotifyLook m r) e))
-  goes_keeps _ _ (moves.by_one m r u) here e = from (phases.NotifyOne m r u) _ e (notified_one c s m r (none_in (phases.NotifyOne m r u) (λ n k. k) e) u (at (phases.NotifyOne m r u) e))
-  goes_keeps _ _ (moves.by_all m r) here e = from (phases.NotifyAll m r) _ e (notified_all c s m r (none_in (phases.NotifyAll m r) (λ n k. k) e) (at (phases.NotifyAll m r) e))
+  goes_keeps phase _ k here e = let own = at phase e in let shows = own.phase_shows in
+      from phase _ e (running c phase s (record { shown = own.shown; show = own.show; depths = own.depths; once = own.once; phase_shows = assumption }) (no_attempt c phases.Run s.frames s.held s.attempt (none_in phase (λ n k. k) e)))
 
   checks_inside : (phase : Phase) (t : Attempt) → Checks c.program s t phase → IsAs phase was → AttemptStandsIn c phase s.frames s.held s.attempt
   checks_inside _ t (moves.at_instruction top f x) e = within phases.Run e
@@ -186,24 +185,19 @@ module _ (begin : BeginsAttempt) (entered_again : EntersInside) (is : Classes) (
   leads_keeps phase _ (moves.to_take_fat m r k f) here e h = let l = looks_stands m phase k e in takes_fat_next c s m was l.0 l.1 r
   leads_keeps _ _ (moves.from_flag m u) here e h = looks_at_lock c s m was (from_flag c s m u (at (phases.Flag m u) e))
   leads_keeps _ _ (moves.to_grow m count a x f last l) here e h = grows_first is c marked was s m a (leaving m a e h) x f count last l
-  leads_keeps _ _ (moves.to_own m toward f) here e h = from (phases.Grow m toward) _ e (to_own c s m (none_in (phases.Grow m toward) (λ n k. k) e) got toward (at (phases.Grow m toward) e))
-  leads_keeps _ _ (moves.to_flat_out m a f) here e h = from (phases.Grow m (towards.Leave a)) _ e (not_grown c s m (none_in (phases.Grow m (towards.Leave a)) (λ n k. k) e) (towards.Leave a) (at (phases.Grow m (towards.Leave a)) e))
-  leads_keeps _ _ (moves.to_no_record m f) here e h = from (phases.Grow m towards.Wait) _ e (not_grown c s m (none_in (phases.Grow m towards.Wait) (λ n k. k) e) towards.Wait (at (phases.Grow m towards.Wait) e))
-  leads_keeps _ _ (moves.to_fat_in m r toward) here e h = from (phases.Own m r toward) _ e (to_fat_in c s m (none_in (phases.Own m r toward) (λ n k. k) e) r toward (at (phases.Own m r toward) e))
-  leads_keeps _ _ (moves.to_wait_out m r) here e h = from (phases.WaitBit m r) _ e (to_wait_out c s m r (none_in (phases.WaitBit m r) (λ n k. k) e) (at (phases.WaitBit m r) e))
-  leads_keeps _ _ (moves.to_retake m r depth f) here e h = from (phases.WaitLook m r depth) _ e (to_retake c s m r (none_in (phases.WaitLook m r depth) (λ n k. k) e) depth (at (phases.WaitLook m r depth) e))
-  leads_keeps _ _ (moves.to_notify_one m r f) here e h = from (phases.NotifyLook m r) _ e (to_notify_one c s m r (none_in (phases.NotifyLook m r) (λ n k. k) e) (lowest_of got) (at (phases.NotifyLook m r) e))
+  leads_keeps _ _ (moves.to_no_record m f) here e h = let k = at (phases.Grow m towards.Wait) e in from (phases.Grow m towards.Wait) _ e (record { is_as = tt; stands = k; attempt = within (phases.Grow m towards.Wait) e })
   leads_keeps _ _ (moves.to_end reason) here e h = ends_keeps c was s reason e structured.stands structured.attempt
   leads_keeps _ _ (moves.to_element top array index stored t f x) here e h = instruction.element_begins c marked s top t (at phases.Run e) (within phases.Run e) was (same phases.Run here (sym e)) array index stored f
   leads_keeps _ _ (moves.to_no_print top v t l f) here e h = instruction.prints_no_more c marked s top t (at phases.Run e) (within phases.Run e) was (same phases.Run here (sym e))
+  leads_keeps phase now k here e h = let own = at phase e in let shows = own.phase_shows in
+      from phase _ e (record { is_as = refl; stands = record { shown = own.shown; show = own.show; depths = own.depths; once = own.once; phase_shows = assumption }; attempt = no_attempt c now s.frames s.held s.attempt (none_in phase (λ n k. k) e) })
 
   turns_keeps : (phase now : Phase) → TurnsTo s got phase now → IsAs phase was → Keeps (failed_turn s now)
   turns_keeps phase _ (moves.looks_again m k) e = let l = looks_stands m phase k e in looks_again c s m was l.0 l.1
   turns_keeps phase _ (moves.flags m u k f) e = let l = looks_stands m phase k e in flags c s m was l.0 l.1 u
   turns_keeps _ _ (moves.takes_not m count f) e = from (phases.Take m count) _ e (turned_back c s m count (from_take c s m count (at (phases.Take m count) e)))
   turns_keeps _ _ (moves.takes_not_fat m r f) e = from (phases.TakeFat m r) _ e (turned_back_fat c s m r (from_take_fat c s m r (at (phases.TakeFat m r) e)))
-  turns_keeps _ _ (moves.waits_on m r depth f) e = from (phases.WaitLook m r depth) _ e (waits_on c s m r (none_in (phases.WaitLook m r depth) (λ n k. k) e) depth (at (phases.WaitLook m r depth) e))
-  turns_keeps _ _ (moves.retakes_not m r depth f) e = from (phases.Retake m r depth) _ e (retakes_not c s m r (none_in (phases.Retake m r depth) (λ n k. k) e) depth (at (phases.Retake m r depth) e))
+  turns_keeps phase _ k e = let turns : TurnsIn c phase s = record { counts = tt; stands = at phase e; inside = within phase e } in from phase _ e (turning c phase s phase turns turns)
 
   gives_up_keeps : (m : ℕ) (a : After) (phase : Phase) → GivesUp s m a phase → IsAs phase was → PhaseHolds c is phase s.frames → Keeps (lets_go c.program s m a)
   gives_up_keeps m a _ (moves.on_leave x f t) e h = left_last is c marked was s m a (leaving m a e h) x f t
