@@ -65,7 +65,6 @@ mod EventCounts
 mod EventLocks
 pub mod HeldOrTried
 mod LeftAsTheyWere
-mod NextChanges
 mod NextEvents
 mod RespectedOwners
 mod SafeStates

@@ -188,7 +188,7 @@ module _ (p : Program) (x : Thread) (r : ℕ) (class : Thrown) where
 
 -- ---- all moves but those of an instruction and of a root
 
-abbrev pub BeginsNothing : Phase → Type 0
+abbrev BeginsNothing : Phase → Type 0
 BeginsNothing phases.Start = ⊥
 BeginsNothing phases.Run = ⊥
 BeginsNothing phase = Unit {0}
@@ -198,7 +198,7 @@ no_some None e has = cc
 no_some (Some a) e has = cc
 
 -- what an event takes is there
-pub lacks_none : (c : MarkedProgram) (x : Thread) (got : ℕ) (phase : Phase) → Lacks c x got phase → BeginsNothing phase → HasEvent c x phase → ⊥
+lacks_none : (c : MarkedProgram) (x : Thread) (got : ℕ) (phase : Phase) → Lacks c x got phase → BeginsNothing phase → HasEvent c x phase → ⊥
 lacks_none c x got _ (moves.no_place word stored e) i has = no_some (top_of c.program x.frames) e has
 lacks_none c x got _ (moves.no_catcher r class e) i has = no_some (dispatched c.program r class x.frames) (ap (option_map (λ at. handed c.program r class at (handler_at (class_of class) at))) e) has
 lacks_none c x got _ (moves.no_claim m a e) i has = has.0 e
@@ -217,10 +217,10 @@ module _ (c : MarkedProgram) (x : Thread) (got : ℕ) where
   goes_less _ _ (moves.by_element word stored at found) i = in_as_many x (phases.Element word stored) x refl (went_on c.program at (element_made stored got)) (ap length (frames_are c.program x.frames at found)) (omega arith)
   goes_less _ _ (moves.by_object a word) i = in_as_many x (phases.Made a word) x refl (pushed a x.frames) (pushed_as_many a x.frames) (omega arith)
   goes_less _ _ (moves.by_handler r class at found) i = hands c.program x r class at (ap length (frames_are c.program x.frames at found)) (handler_at (class_of class) at)
-  goes_less _ _ (moves.by_none m r t) i = ran_on x (phases.NotifyLook m r) x refl (omega arith)
-  goes_less _ _ (moves.by_one m r u) i = ran_on x (phases.NotifyOne m r u) x refl (omega arith)
-  goes_less _ _ (moves.by_all m r) i = ran_on x (phases.NotifyAll m r) x refl (omega arith)
-  goes_less phase o k i = absurd i
+  goes_less _ o (moves.by_effect at e _ found is silent d) i = absurd i
+  goes_less _ _ (moves.by_machine at class found y) i = absurd i
+  goes_less _ _ (moves.by_nobody at m count h found y there l) i = absurd i
+  goes_less phase _ k i = ran_on x phase x refl (omega arith)
 
   fails_less : (phase : Phase) (t : Attempt) → Checks c.program x t phase → BeginsNothing phase → x.attempt ≡ Some t → t.base < length x.frames → Lessens x phase (fails x t)
   fails_less _ t (moves.at_throw r class) i is based = failed x (phases.Throw r class) t is based (omega (arith, ap trying is))
