@@ -69,10 +69,8 @@ IsPlain (phases.Take m count) = ⊥
 IsPlain (phases.TakeFat m r) = ⊥
 IsPlain (phases.Own m r toward) = ⊥
 IsPlain (phases.FatIn m r toward) = ⊥
-IsPlain (phases.WaitOut m r) = ⊥
 IsPlain (phases.WaitLook m r depth) = ⊥
 IsPlain (phases.Retake m r depth) = ⊥
-IsPlain (phases.NotifyOne m r u) = ⊥
 IsPlain phase = Unit {0}
 
 pub plain_knows : (v : Locks) (t : ℕ) (phase : Phase) → IsPlain phase → Knows v t phase

@@ -170,9 +170,4 @@ module _ (sites : KnownSites) (mover : LockMover) where
   locks_by_phase (phases.WaitOut m r) e k = owner_written r 0 (fits_bounds mover (phases.WaitOut m r) e)
   locks_by_phase (phases.WaitLook m r depth) e k = loaded (bits_word r)
   locks_by_phase (phases.Retake m r depth) e k = owner_written r _ (fits_bounds mover (phases.Retake m r depth) e)
-  locks_by_phase (phases.NotifyLook m r) e k = loaded (bits_word r)
-  locks_by_phase phases.Idle e k = unchanged
-  locks_by_phase phases.Start e k = unchanged
-  locks_by_phase (phases.Ending reason) e k = unchanged
-  locks_by_phase (phases.Ended reason) e k = unchanged
   locks_by_phase phase e k = quietly phase e tt

@@ -1,16 +1,16 @@
 -- Whatever event happens, who holds which lock is as the words and the threads say.
-use Rattle.std.proofs.Common.{◌≡◌, ℕ, ◌≤◌, nat_lt, Bool, true, false, cond, Option, Some, None, refl, sym, ap, ◌∙◌, subst, arith, slice_get, slice_index, ◌==◌}
+use Rattle.std.proofs.Common.{◌≡◌, ℕ, ◌≤◌, Option, Some, None, refl, sym, ap, ◌∙◌, subst, arith, slice_get, slice_index}
 use Rattle.jvm_types.specs.{Numbers.has_flag, declared.outcome.End.End}
 use Rattle.checked_program.specs.MarkedProgram.{MarkedProgram}
-use Rattle.machine_types.specs.{Accesses.{found_by, words_after}, Core.event_of, Elision.{looks, may_try}, Events.{wanted, moved}, Going.{runs, with_phase}, HeldMonitors.held_at, LockWords.lock_of}
-use Rattle.machine_types.specs.{Monitors.{bit_of, lowest_of}, Owners.{Locks, drawn_by, Knows, PhaseSaw, Owns, locks_in, references_of, Owners}, Structure.IsAs, Threads.{Attempt, Thread}}
+use Rattle.machine_types.specs.{Accesses.{found_by, words_after}, Core.event_of, Elision.{looks, may_try}, Events.{wanted, moved}, Going.with_phase, HeldMonitors.held_at, LockWords.lock_of}
+use Rattle.machine_types.specs.{Monitors.bit_of, Owners.{Locks, drawn_by, Knows, PhaseSaw, Owns, locks_in, references_of, Owners}, Structure.IsAs, Threads.{Attempt, Thread}}
 use Rattle.machine_types.specs.{Words.bits_word, declared.{access.Access.TheVariants.Load, phase.Phase.Phase}}
 use Rattle.laws_threads.{specs.{GivenThread.{Given, GivenIsKept}, StateLaws.counted_phase_at, StructureLaws.counted_by}, proofs.ThreadMove.of_mover}
 use Rattle.laws_states.specs.{HeapFacts.{objects_by, objects_of}, OwnersLaws.EventsKeepOwners, SiteLaws.{EventsReachSites, SitesDiffer, SitesLieInside}}
 use Rattle.laws_states.proofs.{CountedPhases.{IsPlain, counted_plain}, LockPhases.{plain, knowing, loaded, lock_here, lock_reached, acquired, entered}}
 use Rattle.laws_states.proofs.Movers.{KnownSites, LockState, LockMover, OwnsAs, mover_of, on_heap, locks_of, fits_bounds, phase_shows, phase_reaches, known_sites, lawful_state, phase_stays}
-use Rattle.laws_states.proofs.{OwnerPhases.{runs_counted, took, flagged, took_fat, retook, waited, left, flat_out, drawn, owned, fattened, gone_out}, OwnersStep.{Owes, owned_on}}
-use Rattle.laws_states.proofs.{PlainMoves.{same_look, Plainly, moves_plainly}, QuietWords.{IsQuiet, quiet_at}, SameTally.{Tally, tally_of, same_tally}}
+use Rattle.laws_states.proofs.{OwnerPhases.{took, flagged, took_fat, retook, waited, left, flat_out, drawn, owned, fattened, gone_out}, OwnersStep.{Owes, owned_on}}
+use Rattle.laws_states.proofs.{PlainMoves.{Plainly, moves_plainly}, QuietWords.{IsQuiet, quiet_at}, SameTally.{Tally, tally_of, same_tally}}
 use Rattle.jvm_types.specs.declared.outcome.End.TheVariants as ends
 use Rattle.machine_types.specs.declared.phase.Phase.TheVariants as phases
 
@@ -69,16 +69,6 @@ module _ (sites : KnownSites) (given : GivenIsKept) (mover : LockMover) where
   looked None y h = h
   looked (Some q) y h = loaded mover (was t) own q.monitor y h
 
-  -- it runs on, from any phase
-  runs_on : (phase : Phase) → was t ≡ phase → OwesOf (was t) (locks_in (references_of objects) s.words) (runs x)
-  runs_on phase k = from phase (locks_in (references_of objects) s.words) (runs x) k
-      (plain mover phase (own_as phase k) (runs x) refl refl (omega arith) (same_look x.attempt) (runs_counted phase (nat_lt x.counts.instructions x.cfg.steps)))
-
-  notify_looks : (m r : ℕ) → was t ≡ phases.NotifyLook m r → (b : Bool) (u : ℕ) → OwesOf (was t) (locks_in (references_of objects) s.words) (cond b (runs x) (with_phase x (phases.NotifyOne m r u)))
-  notify_looks m r k true u = runs_on (phases.NotifyLook m r) k
-  notify_looks m r k false u = from (phases.NotifyLook m r) (locks_in (references_of objects) s.words) (with_phase x (phases.NotifyOne m r u)) k
-      (knowing mover (phases.NotifyLook m r) (own_as (phases.NotifyLook m r) k) (with_phase x (phases.NotifyOne m r u)) refl refl refl refl tt tt (λ i d. absurd (cc)))
-
   over : (e : End) (y : Thread) → y.phase ≡ phases.Ended e → y.held ≡ x.held → y.cfg ≡ x.cfg → y.counts.locked ≡ x.counts.locked → y.attempt ≡ x.attempt → OwesOf (was t) (locks_in (references_of objects) s.words) y
   over e y ph held cfg_is locked attempt = knowing mover (was t) own y held cfg_is locked attempt
       (at (λ p. Knows (locks_in (references_of objects) s.words) t p) own.knows tt) (at (λ p. PhaseSaw (locks_in (references_of objects) s.words) owners.count p) own.take tt) (at (λ p. (i : ℕ) → drawn_by p ≡ Some i → drawn_by (was t) ≡ Some i) (λ i d. d) (λ i d. absurd (cc)))
@@ -90,18 +80,10 @@ module _ (sites : KnownSites) (given : GivenIsKept) (mover : LockMover) where
   -- ---- all phases
 
   by_phase : (phase : Phase) → x.phase ≡ phase → IsAs phase (was t) → Done phase
-  by_phase phases.Idle e k = by_same phases.Idle k 0 refl (moves_plainly c x phases.Idle 0 tt (now_plain phases.Idle e tt)) tt
-  by_phase phases.Start e k = by_same phases.Start k 0 (same_tally c x phases.Start 0 tt) (moves_plainly c x phases.Start 0 tt (now_plain phases.Start e tt)) tt
   by_phase phases.Run e k =
       let got = found_by s.words (wanted c x phases.Run) in
       let keeps = ran_keeps c x got in
       quietly phases.Run e tt (plainly phases.Run k got keeps.held keeps.locked (moves_plainly c x phases.Run got tt (now_plain phases.Run e tt)) tt)
-  by_phase (phases.Element word stored) e k =
-      let got = found_by s.words (wanted c x (phases.Element word stored)) in
-      quietly (phases.Element word stored) e tt (by_same (phases.Element word stored) k got (same_tally c x (phases.Element word stored) got tt) (moves_plainly c x (phases.Element word stored) got tt (now_plain (phases.Element word stored) e tt)) tt)
-  by_phase (phases.Made a word) e k =
-      let got = found_by s.words (wanted c x (phases.Made a word)) in
-      quietly (phases.Made a word) e tt (by_same (phases.Made a word) k got (same_tally c x (phases.Made a word) got tt) (moves_plainly c x (phases.Made a word) got tt (now_plain (phases.Made a word) e tt)) tt)
   by_phase (phases.Throw z class) e k =
       let got = found_by s.words (looks x.attempt) in
       looked x.attempt _ (by_same (phases.Throw z class) k got (same_tally c x (phases.Throw z class) got tt) (moves_plainly c x (phases.Throw z class) got tt (now_plain (phases.Throw z class) e tt)) tt)
@@ -124,20 +106,17 @@ module _ (sites : KnownSites) (given : GivenIsKept) (mover : LockMover) where
   by_phase (phases.FatIn m r toward) e k = from (phases.FatIn m r toward) _ _ k
       (fattened sites mover m r toward (held_at x.held m) (own_as (phases.FatIn m r toward) k) (fits_bounds mover (phases.FatIn m r toward) e) refl
       (phase_shows mover (phases.FatIn m r toward) k).flat (phase_reaches mover sites (phases.FatIn m r toward) e))
-  by_phase (phases.WaitBit m r) e k = quietly (phases.WaitBit m r) e tt (from (phases.WaitBit m r) _ _ k
-      (knowing mover (phases.WaitBit m r) (own_as (phases.WaitBit m r) k) (with_phase x (phases.WaitOut m r)) refl refl refl refl tt tt (λ i d. absurd (cc))))
   by_phase (phases.WaitOut m r) e k = from (phases.WaitOut m r) _ _ k
       (gone_out sites mover m r (held_at x.held m) (own_as (phases.WaitOut m r) k) (fits_bounds mover (phases.WaitOut m r) e) refl (phase_shows mover (phases.WaitOut m r) k).1)
   by_phase (phases.WaitLook m r depth) e k = from (phases.WaitLook m r depth) _ _ k
       (loaded mover (phases.WaitLook m r depth) (own_as (phases.WaitLook m r depth) k) (bits_word r) _
       (waited sites mover m r depth (has_flag (bit_of x.number) (slice_index s.words (bits_word r))) (own_as (phases.WaitLook m r depth) k)))
   by_phase (phases.Retake m r depth) e k = from (phases.Retake m r depth) _ _ k (retook sites mover m r depth (own_as (phases.Retake m r depth) k))
-  by_phase (phases.NotifyLook m r) e k = loaded mover (was t) own (bits_word r) _
-      (notify_looks m r k (slice_index s.words (bits_word r) == 0) (lowest_of (slice_index s.words (bits_word r))))
-  by_phase (phases.NotifyOne m r u) e k = quietly (phases.NotifyOne m r u) e tt (runs_on (phases.NotifyOne m r u) k)
-  by_phase (phases.NotifyAll m r) e k = quietly (phases.NotifyAll m r) e tt (runs_on (phases.NotifyAll m r) k)
   by_phase (phases.Ending reason) e k = over reason (with_phase x (phases.Ended reason)) refl refl refl refl refl
   by_phase (phases.Ended reason) e k = over reason x e refl refl refl refl
+  by_phase phase e k =
+      let got = found_by s.words (wanted c x phase) in
+      quietly phase e tt (by_same phase k got (same_tally c x phase got tt) (moves_plainly c x phase got tt (now_plain phase e tt)) tt)
 
   pub thread_kept : Owners (references_of (objects_of c.program (Some x) objects)) (counted_phase_at was t (event_of c s t (Some x)).threads) (event_of c s t (Some x))
   thread_kept =

@@ -4,8 +4,8 @@ use Rattle.jvm_types.specs.declared.program.Program.{Program}
 use Rattle.checked_program.specs.MarkedProgram.{MarkedProgram}
 use Rattle.machine_types.specs.{Elision.{is_same, elided}, Events.moved, Frames.went_on, Going.{goes_on, goes_on_if}, Instructions.printed, Monitors.finishes, Onward.{Onward, Running, RootReturned}}
 use Rattle.machine_types.specs.{Owners.{Locks, IsSeen, AttemptSawIn}, Threads.{Thread, Attempt}, declared.{config.Config.Config, phase.{After.After, Phase.Phase}}}
-use Rattle.laws_threads.proofs.ThreadMove.{LeadsTo, TurnsTo, Asks, WaitsFrom, Move, becomes, counting, any_move, if_either, looks_in, takes_in, gives_up_in, over_to, same_onward}
-use Rattle.laws_states.proofs.{CalmMoves.{waits_in, asks_in}, CountedPhases.IsPlain}
+use Rattle.laws_threads.proofs.ThreadMove.{LeadsTo, TurnsTo, Move, becomes, counting, any_move, if_either, looks_in, takes_in, gives_up_in, over_to, same_onward}
+use Rattle.laws_states.proofs.{CalmMoves.{waits_in, asks_in}, CountedPhases.IsPlain, SameTally.LeavesLocks}
 use Rattle.jvm_types.specs.declared.outcome.End.TheVariants as ends
 use Rattle.machine_types.specs.declared.phase.Phase.TheVariants as phases
 use Rattle.laws_threads.proofs.ThreadMove as moves
@@ -49,34 +49,22 @@ module _ (old : Option Attempt) where
   goes_if s None p k = record { phase = p; attempt = k }
   goes_if s (Some o) p k = goes s o k
 
--- ---- events between the locks
+-- ---- events that leave locks alone
 
--- what a thread in these phases does leaves it in a plain one
-abbrev pub GoesPlain : Phase → Type 0
-GoesPlain phases.Idle = Unit {0}
-GoesPlain phases.Start = Unit {0}
-GoesPlain phases.Run = Unit {0}
-GoesPlain (phases.Element word stored) = Unit {0}
-GoesPlain (phases.Made a word) = Unit {0}
-GoesPlain (phases.Throw x class) = Unit {0}
-GoesPlain phase = ⊥
+abbrev Never : Phase → Type 0
+Never phase = LeavesLocks phase → ⊥
 
-abbrev NeverPlain : Phase → Type 0
-NeverPlain phase = GoesPlain phase → ⊥
+leads_plain : (p : Program) (s : Thread) (got : ℕ) (was now : Phase) → LeadsTo p s got was now → LeavesLocks was → IsPlain now
+leads_plain p s got was _ (moves.to_take m count k e) n = absurd (looks_in Never m was k (λ tried n. n) (λ n. n) n)
+leads_plain p s got was _ (moves.to_take_fat m r k e) n = absurd (looks_in Never m was k (λ tried n. n) (λ n. n) n)
+leads_plain p s got was now k n = assumption
 
-leads_plain : (p : Program) (s : Thread) (got : ℕ) (was now : Phase) → LeadsTo p s got was now → GoesPlain was → IsPlain now
-leads_plain p s got _ _ (moves.to_element at array index stored e f t) n = tt
-leads_plain p s got _ _ (moves.to_no_print at v e l t) n = tt
-leads_plain p s got was _ (moves.to_take m count k e) n = absurd (looks_in NeverPlain m was k (λ tried n. n) (λ n. n) n)
-leads_plain p s got was _ (moves.to_take_fat m r k e) n = absurd (looks_in NeverPlain m was k (λ tried n. n) (λ n. n) n)
-leads_plain p s got was now k n = absurd n
-
-turns_never : (s : Thread) (got : ℕ) (was now : Phase) → TurnsTo s got was now → NeverPlain was
-turns_never s got was _ (moves.looks_again m k) n = looks_in NeverPlain m was k (λ tried n. n) (λ n. n) n
-turns_never s got was _ (moves.flags m u k e) n = looks_in NeverPlain m was k (λ tried n. n) (λ n. n) n
+turns_never : (s : Thread) (got : ℕ) (was now : Phase) → TurnsTo s got was now → Never was
+turns_never s got was _ (moves.looks_again m k) n = looks_in Never m was k (λ tried n. n) (λ n. n) n
+turns_never s got was _ (moves.flags m u k e) n = looks_in Never m was k (λ tried n. n) (λ n. n) n
 turns_never s got was now k n = n
 
-plain_moved : (c : MarkedProgram) (s : Thread) (got : ℕ) (was : Phase) (k : Move c s got was) → GoesPlain was → IsPlain s.phase → Plainly s.attempt (becomes c s got was k)
+plain_moved : (c : MarkedProgram) (s : Thread) (got : ℕ) (was : Phase) (k : Move c s got was) → LeavesLocks was → IsPlain s.phase → Plainly s.attempt (becomes c s got was k)
 plain_moved c s got was (moves.stays k) n h = record { phase = h; attempt = same_look s.attempt }
 plain_moved c s got was (moves.goes o k) n h = goes s.attempt s o (same_look s.attempt)
 plain_moved c s got was (moves.fails_in t e d k) n h = record { phase = tt; attempt = tt }
@@ -87,11 +75,11 @@ plain_moved c s got _ (moves.prints at i e f t) n h = goes s.attempt (printed s 
 plain_moved c s got _ (moves.asks_to_wait at m e now f l t k) n h = record { phase = waits_in IsPlain m e.kept now k tt (λ r. tt); attempt = same_look s.attempt }
 plain_moved c s got _ (moves.asks at m e now f y l k) n h = record { phase = asks_in IsPlain m e.kept now k (λ r. tt) (λ r. tt); attempt = same_look s.attempt }
 plain_moved c s got _ (moves.starts number roots e) n h = goes_if s.attempt (record s { roots = roots }) _ h (same_look s.attempt)
-plain_moved c s got was (moves.takes_lock m kept k) n h = absurd (takes_in NeverPlain got m was kept k (λ count n. n) (λ r n. n) n)
-plain_moved c s got was (moves.gives_up m a k) n h = absurd (gives_up_in NeverPlain s m a was k (λ n. n) (λ n. n) n)
+plain_moved c s got was (moves.takes_lock m kept k) n h = absurd (takes_in Never got m was kept k (λ count n. n) (λ r n. n) n)
+plain_moved c s got was (moves.gives_up m a k) n h = absurd (gives_up_in Never s m a was k (λ n. n) (λ n. n) n)
 plain_moved c s got _ k n h = absurd n
 
-pub moves_plainly : (c : MarkedProgram) (s : Thread) (phase : Phase) (got : ℕ) → GoesPlain phase → IsPlain s.phase → Plainly s.attempt (moved c s phase got)
+pub moves_plainly : (c : MarkedProgram) (s : Thread) (phase : Phase) (got : ℕ) → LeavesLocks phase → IsPlain s.phase → Plainly s.attempt (moved c s phase got)
 moves_plainly c s phase got n h = any_move (Plainly s.attempt) c s phase got (λ i k. plain_moved c (counting i s) got phase k n h)
 
 -- ---- an attempt's section is left

@@ -9,7 +9,7 @@ use Rattle.machine_types.specs.{Frames.{Top, top_of, effect_at}, LockWords.lock_
 use Rattle.machine_types.specs.{Threads.Thread, Words.{owner_word, header_word}, declared.{access.Access.{Access, TheVariants.{Add}}, effect.Effect.Effect}}
 use Rattle.machine_types.specs.declared.{effect.Effect.TheVariants.{Writes}, phase.Phase.Phase}
 use Rattle.laws_states.{specs.{HeapFacts.objects_by, Sites.{Site, Counter, OwnerOf, LockOf, NewHeaderOf, site_word, IsThere, Suits}}, proofs.EventWords.{IsLeft, phase_stores, word_at, some_words}}
-use Rattle.laws_states.proofs.{LeftSmall.PhaseStores, LeftStands.{Wants, loads, writes, makes, prints, run_wanted}, Lists.set_there, Movers.{KnownSites, HeapMover}, TopStores.{IsPlace, StoresFit}}
+use Rattle.laws_states.proofs.{LeftSmall.PhaseStores, LeftStands.{Wants, loads, writes, makes, prints, run_wanted}, Lists.set_there, Movers.{KnownSites, HeapMover}, SameTally.LeavesLocks, TopStores.{IsPlace, StoresFit}}
 use Rattle.laws_states.proofs.WordViews.{has_object, views_same, record_there}
 use Rattle.machine_types.specs.declared.lock.LockWord.TheVariants as locks
 use Rattle.machine_types.specs.declared.phase.Phase.TheVariants as phases
@@ -51,13 +51,8 @@ module _ (site : Site) (lock : IsLockSite site) (got : ℕ) where
 -- ---- phases
 
 abbrev pub IsQuiet : Phase → Type 0
-IsQuiet phases.Run = Unit {0}
-IsQuiet (phases.Element word stored) = Unit {0}
-IsQuiet (phases.Made a word) = Unit {0}
-IsQuiet (phases.WaitBit m r) = Unit {0}
-IsQuiet (phases.NotifyOne m r u) = Unit {0}
-IsQuiet (phases.NotifyAll m r) = Unit {0}
-IsQuiet phase = ⊥
+IsQuiet (phases.Throw x class) = ⊥
+IsQuiet phase = LeavesLocks phase
 
 quiet_leaves : (c : MarkedProgram) (s : Thread) (phase : Phase) (site : Site) (access : Access) (got : ℕ) → IsQuiet phase → PhaseStores c s phase → ((a word : ℕ) → phase ≡ phases.Made a word → header_word a ≢ NEXT_RECORD_WORD)
     → IsLockSite site → wanted c s phase ≡ Some access → Suits (content_at c s phase) site → accessed access ≡ site_word site → left_by access got ≡ got
@@ -67,9 +62,11 @@ quiet_leaves c s phases.Run site access got quiet fits apart lock w suits at =
 quiet_leaves c s (phases.Element word stored) site access got quiet fits apart lock w suits at = absurd (place_suits_none IntPlace site tt lock suits)
 quiet_leaves c s (phases.Made a word) site access got quiet fits apart lock w suits at = counter_not site lock got access at (λ e. apart a word refl (ap accessed (same_some w) ∙ e)) suits
 quiet_leaves c s (phases.WaitBit m r) site access got quiet fits apart lock w suits at = absurd (bits_suit_none site lock suits)
+quiet_leaves c s (phases.NotifyLook m r) site access got quiet fits apart lock w suits at = absurd (bits_suit_none site lock suits)
 quiet_leaves c s (phases.NotifyOne m r u) site access got quiet fits apart lock w suits at = absurd (bits_suit_none site lock suits)
 quiet_leaves c s (phases.NotifyAll m r) site access got quiet fits apart lock w suits at = absurd (bits_suit_none site lock suits)
-quiet_leaves c s phase site access got quiet fits apart lock w suits at = absurd quiet
+quiet_leaves c s (phases.Ending e) site access got quiet fits apart lock w suits at = ap (λ (a : Access). left_by a got) (sym (same_some w))
+quiet_leaves c s phase site access got quiet fits apart lock w suits at = absurd (first_of (assumption, cc))
 
 -- ---- the words
 
