@@ -92,19 +92,24 @@ LocksPhase (phases.Own m r toward) = Unit {0}
 LocksPhase (phases.FatIn m r toward) = Unit {0}
 LocksPhase phase = ⊥
 
--- it waits, is woken, or wakes; or it ends or has ended, or has not begun
+-- every other phase: it waits, is woken, or wakes; or it ends or has ended, or has not begun
 abbrev pub WaitsPhase : Phase → Type 0
-WaitsPhase (phases.WaitBit m r) = Unit {0}
-WaitsPhase (phases.WaitOut m r) = Unit {0}
-WaitsPhase (phases.WaitLook m r depth) = Unit {0}
-WaitsPhase (phases.Retake m r depth) = Unit {0}
-WaitsPhase (phases.NotifyLook m r) = Unit {0}
-WaitsPhase (phases.NotifyOne m r u) = Unit {0}
-WaitsPhase (phases.NotifyAll m r) = Unit {0}
-WaitsPhase (phases.Ending e) = Unit {0}
-WaitsPhase (phases.Ended e) = Unit {0}
-WaitsPhase phases.Idle = Unit {0}
-WaitsPhase phase = ⊥
+WaitsPhase phases.Run = ⊥
+WaitsPhase phases.Start = ⊥
+WaitsPhase (phases.Element word stored) = ⊥
+WaitsPhase (phases.Made a word) = ⊥
+WaitsPhase (phases.Throw y class) = ⊥
+WaitsPhase (phases.Enter m tried) = ⊥
+WaitsPhase (phases.Acquire m) = ⊥
+WaitsPhase (phases.Take m count) = ⊥
+WaitsPhase (phases.Flag m u) = ⊥
+WaitsPhase (phases.TakeFat m r) = ⊥
+WaitsPhase (phases.Leave m a) = ⊥
+WaitsPhase (phases.Grow m toward) = ⊥
+WaitsPhase (phases.FlatOut m a) = ⊥
+WaitsPhase (phases.Own m r toward) = ⊥
+WaitsPhase (phases.FatIn m r toward) = ⊥
+WaitsPhase phase = Unit {0}
 
 -- ---- the laws
 
