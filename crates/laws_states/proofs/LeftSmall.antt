@@ -1,5 +1,5 @@
 -- What an event leaves of a word is below 2^64, and what it adds to a counter is little.
-use Rattle.std.proofs.Common.{◌≡◌, ◌⊎◌, inl, inr, ℕ, zero, suc, ◌+◌, ◌*◌, ◌/◌, ◌%◌, ◌^◌, ◌<◌, ◌≤◌, nat_lt, Bool, true, false, Option, Some, None, refl, sym, subst, arith, if◌then◌else◌}
+use Rattle.std.proofs.Common.{◌≡◌, ◌⊎◌, inl, inr, ℕ, zero, suc, ◌+◌, ◌*◌, ◌/◌, ◌%◌, ◌^◌, ◌<◌, ◌≤◌, nat_lt, Bool, true, false, IfSome, Option, Some, None, refl, sym, subst, arith, if◌then◌else◌}
 use Rattle.std.proofs.lemmas.Bool.Decides.{nat_tests}
 use Rattle.lists.proofs.ListLaws.{same_some}
 use Rattle.jvm_types.specs.declared.{fixed_words.TheConstants.{NEXT_FREE_WORD, NEXT_TICKET_WORD, NEXT_RECORD_WORD}, program.{Program.Program, Target.Target}}
@@ -11,7 +11,7 @@ use Rattle.machine_types.specs.{Monitors.{Claim, Has, Tries, HasNot, claim, ente
 use Rattle.machine_types.specs.declared.{access.Access.TheVariants.{Load, Store, Add}, effect.Effect.{Effect, TheVariants.{Writes}}}
 use Rattle.machine_types.specs.declared.{lock.Kept.Kept, phase.Phase.Phase}
 use Rattle.laws_threads.proofs.ThreadMove.{begun_by}
-use Rattle.laws_states.{specs.{Counters.most_size, SharedWords.{CountsTo, IsLock, MayStand}}, proofs.{CountedEvents.drawn_by, LeftStands.{Wants, loads, writes, makes, prints, run_wanted, leaves, no_access, loaded}}}
+use Rattle.laws_states.{specs.{Counters.most_size, SharedWords.{CountsTo, IsLock, MayStand}}, proofs.{CountedEvents.drawn_by, LeftStands.{Wants, loads, writes, makes, prints, run_wanted, leaves, loaded}}}
 use Rattle.laws_states.proofs.TopStores.{IsPlace, StoresFit}
 use Rattle.machine_types.specs.declared.lock.Kept.TheVariants as keeps
 use Rattle.machine_types.specs.declared.phase.Phase.TheVariants as phases
@@ -65,16 +65,13 @@ may_small range n Owner few is h = omega (arith, h)
 may_small range n Bits few is h = omega (arith, h)
 may_small range n content few is h = absurd is
 
--- the phases whose access is of a word for locking
+-- the phases whose access, where they have one, is of a word for locking
 abbrev pub IsLockingPhase : Phase → Type 0
-IsLockingPhase phases.Idle = ⊥
-IsLockingPhase phases.Start = ⊥
 IsLockingPhase phases.Run = ⊥
 IsLockingPhase (phases.Element word stored) = ⊥
 IsLockingPhase (phases.Made a word) = ⊥
 IsLockingPhase (phases.Grow m toward) = ⊥
 IsLockingPhase (phases.Ending e) = ⊥
-IsLockingPhase (phases.Ended e) = ⊥
 IsLockingPhase phase = Unit {0}
 
 leave_is_locking : (claimed : Claim) → IsLocking (leave_content claimed)
@@ -82,16 +79,14 @@ leave_is_locking (Has h) = elim h.kept as (λ (k : Kept). IsLocking (leave_conte
 leave_is_locking (Tries a) = tt
 leave_is_locking HasNot = tt
 
-pub content_is_locking : (c : MarkedProgram) (s : Thread) (phase : Phase) → IsLockingPhase phase → IsLocking (content_at c s phase)
-content_is_locking c s phases.Run is = absurd is
-content_is_locking c s (phases.Leave m a) is = leave_is_locking (claim s m)
-content_is_locking c s phase is = is
+content_is_locking : (c : MarkedProgram) (s : Thread) (phase : Phase) (access : Access) → wanted c s phase ≡ Some access → IsLockingPhase phase → IsLocking (content_at c s phase)
+content_is_locking c s phases.Run access w is = absurd is
+content_is_locking c s (phases.Leave m a) access w is = leave_is_locking (claim s m)
+content_is_locking c s phase access w is = first_of (assumption, cc)
 
 -- where a word for locking is left as one
 pub left_small : (c : MarkedProgram) (s : Thread) (phase : Phase) (access : Access) (got : ℕ) → s.cfg.range < 2 ^ 61 → wanted c s phase ≡ Some access → Small got → SumFits access got → PhaseStores c s phase
     → MayStand s.cfg.range (content_at c s phase) (left_by access got) → Small (left_by access got)
-left_small c s phases.Idle access got few w small sum fits left = no_access Small access got small w
-left_small c s phases.Start access got few w small sum fits left = no_access Small access got small w
 left_small c s phases.Run access got few w small sum fits left =
     let k = run_wanted c.program s access (top_of c.program s.frames) w in
     effect_small c.program k.0.target (effect_at c.program k.0) access got k.2 small sum (fits k.0 k.1)
@@ -99,8 +94,7 @@ left_small c s (phases.Element word stored) access got few w small sum fits left
 left_small c s (phases.Made a word) access got few w small sum fits left = leaves Small access got small _ w fits
 left_small c s (phases.Grow m toward) access got few w small sum fits left = leaves Small access got small _ w (sum NEXT_RECORD_WORD 1 w)
 left_small c s (phases.Ending e) access got few w small sum fits left = leaves Small access got small _ w small
-left_small c s (phases.Ended e) access got few w small sum fits left = no_access Small access got small w
-left_small c s phase access got few w small sum fits left = may_small s.cfg.range (left_by access got) (content_at c s phase) few (content_is_locking c s phase tt) left
+left_small c s phase access got few w small sum fits left = may_small s.cfg.range (left_by access got) (content_at c s phase) few (content_is_locking c s phase access w tt) left
 
 -- ---- what is added
 
@@ -113,6 +107,10 @@ abbrev pub IsCounted : Access → Type 0
 IsCounted (Add w v) = (w ≡ NEXT_FREE_WORD) ⊎ (w ≡ NEXT_TICKET_WORD) ⊎ (w ≡ NEXT_RECORD_WORD)
 IsCounted access = Unit {0}
 
+abbrev AddsNone : Access → Type 0
+AddsNone (Add w v) = ⊥
+AddsNone access = Unit {0}
+
 pub record AddsFew (access : Access) (began drew : ℕ) : Type 0 where
   pub counted : IsCounted access
   pub free : accessed access ≡ NEXT_FREE_WORD → added access ≤ most_size * began
@@ -123,19 +121,18 @@ module _ (access : Access) (began drew : ℕ) where
   by_access : (a : Access) → Some a ≡ Some access → AddsFew a began drew → AddsFew access began drew
   by_access a e h = subst (λ (x : Access). AddsFew x began drew) (same_some e) h
 
-  no_sum : (a : Access) → Some a ≡ Some access → added a ≡ 0 → IsCounted a → AddsFew access began drew
-  no_sum a e none is = by_access a e (record { counted = is; free = λ k. omega (arith, none); tickets = λ k. omega (arith, none); records = λ k. omega (arith, none) })
-
-  none : None ≡ Some access → AddsFew access began drew
-  none e = absurd (cc)
+  no_sum : (o : Option Access) → o ≡ Some access → IfSome o AddsNone → AddsFew access began drew
+  no_sum None e h = absurd (cc)
+  no_sum (Some (Add w v)) e h = absurd h
+  no_sum (Some a) e h = by_access a e (record { counted = tt; free = λ k. omega arith; tickets = λ k. omega arith; records = λ k. omega arith })
 
   looks_adds : (a : Option Attempt) → looks a ≡ Some access → AddsFew access began drew
-  looks_adds None e = none e
-  looks_adds (Some a) e = no_sum _ e refl tt
+  looks_adds None e = no_sum _ e tt
+  looks_adds (Some a) e = no_sum _ e tt
 
 effect_adds : (p : Program) (target : Target) (e : Effect) (access : Access) → Wants e access → StoresFit p target e → AddsFew access 1 0
-effect_adds p target _ _ (loads e w) fits = no_sum (Load w) 1 0 (Load w) refl refl tt
-effect_adds p target _ _ (writes v word) fits = no_sum (Store (variable_word v) word) 1 0 (Store (variable_word v) word) refl refl tt
+effect_adds p target _ _ (loads e w) fits = no_sum (Load w) 1 0 (Some (Load w)) refl tt
+effect_adds p target _ _ (writes v word) fits = no_sum (Store (variable_word v) word) 1 0 (Some (Store (variable_word v) word)) refl tt
 effect_adds p target _ _ (makes word size) fits = record { counted = inl refl; free = λ k. omega (arith, fits); tickets = λ k. absurd (omega (arith, k)); records = λ k. absurd (omega (arith, k)) }
 effect_adds p target _ _ (prints n) fits = record { counted = inr (inl refl); free = λ k. absurd (omega (arith, k)); tickets = λ k. omega arith; records = λ k. absurd (omega (arith, k)) }
 
@@ -143,20 +140,20 @@ leave_adds : (s : Thread) (m : ℕ) (access : Access) (claimed : Claim) → leav
 leave_adds s m access (Has h) w = by_depth (nat_lt 1 h.depth) w
   where
     by_depth : (b : Bool) → (if b then None else Some (release s m h.kept)) ≡ Some access → AddsFew access 0 0
-    by_depth true w = none access 0 0 w
+    by_depth true w = no_sum access 0 0 _ w tt
     by_depth false w = (elim h.kept as (λ (k : Kept). Some (release s m k) ≡ Some access → AddsFew access 0 0)
-        [ keeps.Flat n ↦ λ w. no_sum access 0 0 _ w refl tt | keeps.Fat r ↦ λ w. no_sum access 0 0 _ w refl tt ]) w
+        [ keeps.Flat n ↦ λ w. no_sum access 0 0 _ w tt | keeps.Fat r ↦ λ w. no_sum access 0 0 _ w tt ]) w
 leave_adds s m access (Tries a) w = (elim a.inner as (λ (inner : ℕ). finish_wants m inner ≡ Some access → AddsFew access 0 0)
-    [ zero ↦ λ w. no_sum access 0 0 _ w refl tt | suc inner ↦ λ w. none access 0 0 w ]) w
-leave_adds s m access HasNot w = none access 0 0 w
+    [ zero ↦ λ w. no_sum access 0 0 _ w tt | suc inner ↦ λ w. no_sum access 0 0 _ w tt ]) w
+leave_adds s m access HasNot w = no_sum access 0 0 _ w tt
 
 enter_adds : (m : ℕ) (access : Access) (claimed : Claim) → enter_wants m claimed ≡ Some access → AddsFew access 0 0
-enter_adds m access HasNot w = no_sum access 0 0 _ w refl tt
-enter_adds m access claimed w = none access 0 0 w
+enter_adds m access HasNot w = no_sum access 0 0 _ w tt
+enter_adds m access claimed w = no_sum access 0 0 _ w tt
 
 element_adds : (word : ℕ) (access : Access) (stored : Option ℕ) → Some (element_wants word stored) ≡ Some access → AddsFew access 0 0
-element_adds word access None w = no_sum access 0 0 _ w refl tt
-element_adds word access (Some v) w = no_sum access 0 0 _ w refl tt
+element_adds word access None w = no_sum access 0 0 _ w tt
+element_adds word access (Some v) w = no_sum access 0 0 _ w tt
 
 pub adds_few : (c : MarkedProgram) (s : Thread) (phase : Phase) (access : Access) → wanted c s phase ≡ Some access → PhaseStores c s phase → AddsFew access (begun_by phase (top_of c.program s.frames)) (drawn_by phase)
 adds_few c s phases.Run access w fits =
@@ -167,10 +164,7 @@ adds_few c s (phases.Throw x class) access w fits = looks_adds access 0 0 s.atte
 adds_few c s (phases.Enter m n) access w fits = enter_adds m access (claim s m) w
 adds_few c s (phases.Leave m a) access w fits = leave_adds s m access (claim s m) w
 adds_few c s (phases.Grow m toward) access w fits = by_access access 0 1 _ w (record { counted = inr (inr refl); free = λ k. absurd (omega (arith, k)); tickets = λ k. absurd (omega (arith, k)); records = λ k. omega arith })
-adds_few c s phases.Idle access w fits = absurd (cc)
-adds_few c s phases.Start access w fits = absurd (cc)
-adds_few c s (phases.Ended e) access w fits = absurd (cc)
-adds_few c s phase access w fits = no_sum access 0 0 _ w refl tt
+adds_few c s phase access w fits = no_sum access 0 0 _ w tt
 
 -- ---- a counter is only added to
 
@@ -180,9 +174,6 @@ OnlyAdds access got = left_by access got ≤ got + added access
 module _ (access : Access) (got : ℕ) where
   adds_by : (a : Access) → Some a ≡ Some access → left_by a got ≤ got + added a → OnlyAdds access got
   adds_by a e h = subst (λ (x : Access). left_by x got ≤ got + added x) (same_some e) h
-
-  nowhere : None ≡ Some access → OnlyAdds access got
-  nowhere e = absurd (cc)
 
 not_place : (content : Content) → content ≡ Any → IsPlace content → ⊥
 not_place content e is = subst IsPlace e is
@@ -199,8 +190,6 @@ effect_only_adds p target _ _ got (prints n) fits any = omega arith
 
 -- but where a header is stored for the first time
 pub only_adds : (c : MarkedProgram) (s : Thread) (phase : Phase) (access : Access) (got : ℕ) → wanted c s phase ≡ Some access → PhaseStores c s phase → content_at c s phase ≡ Any → (IsMade phase → ⊥) → OnlyAdds access got
-only_adds c s phases.Idle access got w fits any not_made = nowhere access got w
-only_adds c s phases.Start access got w fits any not_made = nowhere access got w
 only_adds c s phases.Run access got w fits any not_made =
     let k = run_wanted c.program s access (top_of c.program s.frames) w in
     effect_only_adds c.program k.0.target (effect_at c.program k.0) access got k.2 (fits k.0 k.1) (subst (λ (o : Option Top). run_content c.program o ≡ Any) k.1 any)
@@ -208,5 +197,4 @@ only_adds c s (phases.Element word stored) access got w fits any not_made = absu
 only_adds c s (phases.Made a word) access got w fits any not_made = absurd (not_made tt)
 only_adds c s (phases.Grow m toward) access got w fits any not_made = adds_by access got _ w (omega arith)
 only_adds c s (phases.Ending e) access got w fits any not_made = adds_by access got _ w (omega arith)
-only_adds c s (phases.Ended e) access got w fits any not_made = nowhere access got w
-only_adds c s phase access got w fits any not_made = absurd (subst IsLocking any (content_is_locking c s phase tt))
+only_adds c s phase access got w fits any not_made = absurd (subst IsLocking any (content_is_locking c s phase access w tt))
