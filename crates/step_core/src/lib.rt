@@ -11,7 +11,7 @@ mod marked;
 mod moving;
 mod wanting;
 
-pub use ahead::{Element, Exit, RunLoop, Sort, run_ahead};
+pub use ahead::{Element, Exit, RunLoop, Sort, Touch, run_ahead};
 pub use entry_code::EntryTables;
 pub use halves::{Want, apply_effect, step_or_want};
 pub use instr_effects::perform;

@@ -9,7 +9,7 @@ ghost use Rattle.machine_types.specs.declared.access.Access.TheVariants.{Load as
 ghost use Rattle.machine_types.specs.declared.effect.Effect.TheVariants.{Indexes};
 ghost use Rattle.machine_types.specs.declared.phase.Phase.TheVariants.{Run};
 ghost use Rattle.step_core.specs.Progress.{IsAtPlace, got_to};
-ghost use Rattle.step_core.specs.Sharing.{IsElementMadeBy, IsInsnMadeBy, Touches, Wants};
+ghost use Rattle.step_core.specs.Sharing.{IsElementMadeBy, IsInsnMadeBy, IsTouch, Touches, Wants};
 ghost use Rattle.step_core.specs.Sharing.{at_element, effect_there};
 
 use crate::ahead::elements::{element_word, length_of};
@@ -23,6 +23,15 @@ use instr_effects::{kept, variable_of};
 use instr_steps::Place;
 use jvm_types::{Op, Target};
 use machine_types::{Access, Effect};
+
+/// The access of an instruction that names a field, and what the instruction does to the stack: how
+/// many values it takes, and whether it gives the one that was found.
+#[derive(Clone, Copy, Debug, PartialEq, Eq)]
+pub struct Touch {
+    pub access: Access,
+    pub takes: u16,
+    pub gives: bool,
+}
 
 /// An element that an instruction accesses: its array, which is no null, the index as it stands on
 /// the stack, and the value to be stored, where one is.
@@ -64,12 +73,14 @@ impl Element {
 }
 
 impl<'a> RunLoop<'a> {
-    /// The access of an instruction that names a field, where it has one.
+    /// The access of an instruction that names a field, where it has one, and what the instruction
+    /// does to the stack.
     #[inline(always)]
-    pub fn touch_wants(&self, s: &ThreadState, place: &Place) -> Option<Access>
+    pub fn touch_wants(&self, s: &ThreadState, place: &Place) -> Option<Touch>
         requires here { IsAtPlace s.now self.now place.now }
-        ensures wants { IfSome result (λ a. Wants s.now self.now a) }
-        ensures touches { IfSome result (λ a. Touches (effect_there self.now place.now)) }
+        ensures wants { IfSome result (λ t. Wants s.now self.now t.access) }
+        ensures touches { IfSome result (λ t. Touches (effect_there self.now place.now)) }
+        ensures stack { IfSome result (λ t. IsTouch t.takes t.gives place.now.insn.op) }
     {
         let Target::Field(number) = place.target() else {
             return None;
@@ -79,27 +90,43 @@ impl<'a> RunLoop<'a> {
         };
         let f = &self.frames;
         match &place.insn().op {
-            Op::Getstatic(_) => Some(Access::Load(variable_word(variable_of(field, 0)))),
-            Op::Putstatic(_) => Some(Access::Store(
-                variable_word(variable_of(field, 0)),
-                kept(field.kind, f.value(0)),
-            )),
+            Op::Getstatic(_) => Some(Touch {
+                access: Access::Load(variable_word(variable_of(field, 0))),
+                takes: 0,
+                gives: true,
+            }),
+            Op::Putstatic(_) => Some(Touch {
+                access: Access::Store(
+                    variable_word(variable_of(field, 0)),
+                    kept(field.kind, f.value(0)),
+                ),
+                takes: 1,
+                gives: false,
+            }),
             Op::Getfield(_) => {
                 let a = f.value(0);
                 if a == 0 {
                     return None;
                 }
-                Some(Access::Load(variable_word(variable_of(field, a))))
+                Some(Touch {
+                    access: Access::Load(variable_word(variable_of(field, a))),
+                    takes: 1,
+                    gives: true,
+                })
             }
             Op::Putfield(_) => {
                 let a = f.value(1);
                 if a == 0 {
                     return None;
                 }
-                Some(Access::Store(
-                    variable_word(variable_of(field, a)),
-                    kept(field.kind, f.value(0)),
-                ))
+                Some(Touch {
+                    access: Access::Store(
+                        variable_word(variable_of(field, a)),
+                        kept(field.kind, f.value(0)),
+                    ),
+                    takes: 2,
+                    gives: false,
+                })
             }
             _ => None,
         }
@@ -107,19 +134,18 @@ impl<'a> RunLoop<'a> {
 
     /// What that instruction makes, by the word that its access found.
     #[inline(always)]
-    pub fn touch_by(&mut self, s: &ThreadState, place: &Place, got: u64)
+    pub fn touch_by(&mut self, s: &ThreadState, place: &Place, touch: Touch, got: u64)
         requires here { IsAtPlace s.now self.old place.now }
         requires touches { Touches (effect_there self.old place.now) }
+        requires stack { IsTouch touch.takes touch.gives place.now.insn.op }
         ensures { IsInsnMadeBy s.now self.old self.new got }
     {
         let checked = self.checked;
         let next = place.insn().next;
-        match &place.insn().op {
-            Op::Getstatic(_) => replace(&mut self.frames, 0, got, next),
-            Op::Getfield(_) => replace(&mut self.frames, 1, got, next),
-            Op::Putstatic(_) => take(&mut self.frames, 1, next),
-            Op::Putfield(_) => take(&mut self.frames, 2, next),
-            _ => unreachable!(),
+        if touch.gives {
+            replace(&mut self.frames, touch.takes, got, next);
+        } else {
+            take(&mut self.frames, touch.takes, next);
         }
         self.number = number_behind(&self.frames, checked, place, self.number, next);
         self.count = one_more(s, self.count);
