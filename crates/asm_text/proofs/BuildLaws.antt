@@ -3,40 +3,40 @@ use Rattle.std.proofs.Common.{◌≡◌, ℕ, ◌≤◌, Bool, false, List, [], 
 use Rattle.std.proofs.lemmas.{Bool.Decides.nat_tests, List.append-nil}
 use Rattle.jvm_types.specs.declared.class_file.{Attr.Attr, ClassFile.ClassFile, Code.Code, Constant.Constant, Handler.Handler, Member.Member}
 use Rattle.asm_text.specs.{Drafting.{line_added, drafted, draft, no_member, empty_code, place_or}, Places.{place_after, place_behind, behind_next, class_rank, code_rank}, declared.drafts.Draft.Draft}
-use Rattle.asm_text.specs.declared.{items.{Item.{Item, TheVariants.{Entry, Interface, Attribute, Row}}, MemberKind.MemberKind}, places.{ClassPart.ClassPart, CodePart.CodePart, Place.Place}}
+use Rattle.asm_text.specs.declared.{items.{Item.{Item, TheVariants.{Entry, Interface, Attribute, Row}}, MemberKind.MemberKind}, places.{ClassPart.ClassPart, CodePart.CodePart, ListingPlace.ListingPlace}}
 use Rattle.asm_text.specs.declared.places.ClassPart.TheVariants as parts
 use Rattle.asm_text.specs.declared.places.CodePart.TheVariants as code_parts
-use Rattle.asm_text.specs.declared.places.Place.TheVariants as places
+use Rattle.asm_text.specs.declared.places.ListingPlace.TheVariants as places
 
 -- ---- lines lead from a place and a draft to others
 
-pub record Leads (place : Place) (d : Draft) (items : List Item) (next : Place) (e : Draft) : Type 0 where
+pub record Leads (place : ListingPlace) (d : Draft) (items : List Item) (next : ListingPlace) (e : Draft) : Type 0 where
   pub follow : place_behind place items ≡ Some next
   pub makes : drafted place d items ≡ e
 
-pub stays : (place : Place) (d : Draft) → Leads place d [] place d
+pub stays : (place : ListingPlace) (d : Draft) → Leads place d [] place d
 stays place d = record { follow = refl; makes = refl }
 
-pub first_line : (place next : Place) (d : Draft) (item : Item) (items : List Item) (last : Place) (e : Draft) → place_after place item ≡ Some next → Leads next (line_added place d item) items last e → Leads place d (item ∷ items) last e
+pub first_line : (place next : ListingPlace) (d : Draft) (item : Item) (items : List Item) (last : ListingPlace) (e : Draft) → place_after place item ≡ Some next → Leads next (line_added place d item) items last e → Leads place d (item ∷ items) last e
 first_line place next d item items last e h l = record {
-  follow = ap (λ (o : Option Place). behind_next o (λ p. place_behind p items)) h ∙ l.follow;
-  makes = ap (λ (o : Option Place). drafted (place_or place o) (line_added place d item) items) h ∙ l.makes;
+  follow = ap (λ (o : Option ListingPlace). behind_next o (λ p. place_behind p items)) h ∙ l.follow;
+  makes = ap (λ (o : Option ListingPlace). drafted (place_or place o) (line_added place d item) items) h ∙ l.makes;
 }
 
-pub both_lead : (place : Place) (d : Draft) (xs : List Item) (middle : Place) (e : Draft) (ys : List Item) (last : Place) (f : Draft) → Leads place d xs middle e → Leads middle e ys last f → Leads place d (xs ++ ys) last f
+pub both_lead : (place : ListingPlace) (d : Draft) (xs : List Item) (middle : ListingPlace) (e : Draft) (ys : List Item) (last : ListingPlace) (f : Draft) → Leads place d xs middle e → Leads middle e ys last f → Leads place d (xs ++ ys) last f
 both_lead place d [] middle e ys last f l k =
-    subst (λ (p : Place). Leads p d ys last f) (some_is l.follow) (subst (λ (x : Draft). Leads middle x ys last f) (sym l.makes) k)
+    subst (λ (p : ListingPlace). Leads p d ys last f) (some_is l.follow) (subst (λ (x : Draft). Leads middle x ys last f) (sym l.makes) k)
   where
-    some_is : {p q : Place} → Some p ≡ Some q → q ≡ p
+    some_is : {p q : ListingPlace} → Some p ≡ Some q → q ≡ p
     some_is e = cc
 both_lead place d (x ∷ xs) middle e ys last f l k = by_next (λ next l. both_lead next (line_added place d x) xs middle e ys last f l k) (place_after place x) refl l.follow l.makes
   where
-    by_next : ((next : Place) → Leads next (line_added place d x) xs middle e → Leads next (line_added place d x) (xs ++ ys) last f) → (o : Option Place) → place_after place x ≡ o → behind_next o (λ p. place_behind p xs) ≡ Some middle → drafted (place_or place o) (line_added place d x) xs ≡ e → Leads place d (x ∷ (xs ++ ys)) last f
+    by_next : ((next : ListingPlace) → Leads next (line_added place d x) xs middle e → Leads next (line_added place d x) (xs ++ ys) last f) → (o : Option ListingPlace) → place_after place x ≡ o → behind_next o (λ p. place_behind p xs) ≡ Some middle → drafted (place_or place o) (line_added place d x) xs ≡ e → Leads place d (x ∷ (xs ++ ys)) last f
     by_next more None h follow makes = absurd (cc)
     by_next more (Some next) h follow makes = first_line place next d x (xs ++ ys) last f h (more next (record { follow = follow; makes = makes }))
 
 -- the draft is another by an equation
-pub leads_as : (place : Place) (d : Draft) (items : List Item) (next : Place) (e f : Draft) → e ≡ f → Leads place d items next e → Leads place d items next f
+pub leads_as : (place : ListingPlace) (d : Draft) (items : List Item) (next : ListingPlace) (e f : Draft) → e ≡ f → Leads place d items next e → Leads place d items next f
 leads_as place d items next e f h l = record { follow = l.follow; makes = l.makes ∙ h }
 
 pub one_behind : {A : Type 0} (xs : List A) (y : A) (ys : List A) → (xs ++ y ∷ []) ++ ys ≡ xs ++ y ∷ ys
@@ -60,7 +60,7 @@ pub record LeadsUpTo (n : ℕ) (part : ClassPart) (d : Draft) (items : List Item
   pub up : UpTo n next
   pub leads : Leads (places.Class part) d items (places.Class next) e
 
-pub entered : (t : Bool) (next : Place) → t ≡ false → (if t then None else Some next) ≡ Some next
+pub entered : (t : Bool) (next : ListingPlace) → t ≡ false → (if t then None else Some next) ≡ Some next
 entered t next h = rw h refl
 
 pub constants_lead : (part : ClassPart) (c : ClassFile) (xs : List Constant) → UpTo 0 part → LeadsUpTo 0 part (draft c no_member empty_code) (map Entry xs) (draft (record c { constants = c.constants ++ xs }) no_member empty_code)

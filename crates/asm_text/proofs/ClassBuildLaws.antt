@@ -11,7 +11,7 @@ use Rattle.jvm_types.specs.declared.class_file.MemberAttr.TheVariants as member_
 use Rattle.asm_text.specs.declared.items.MemberKind.TheVariants as kinds
 use Rattle.asm_text.specs.declared.places.ClassPart.TheVariants as parts
 use Rattle.asm_text.specs.declared.places.CodePart.TheVariants as code_parts
-use Rattle.asm_text.specs.declared.places.Place.TheVariants as places
+use Rattle.asm_text.specs.declared.places.ListingPlace.TheVariants as places
 
 -- ---- the lines of a class
 

@@ -8,7 +8,7 @@ use Rattle.asm_text.specs.declared.{items.{Item.{Item, TheVariants.{CodeBytes, I
 use Rattle.asm_text.proofs.{BuildLaws.{Leads, first_line, leads_as, stays, entered, CodeUpTo, LeadsInCode, code_up_more}, EncodeLaws.{insn_operands, LineHolds, line_holds, IsPadded, operands_spelled}}
 use Rattle.asm_text.proofs.WordLaws.{small_back}
 use Rattle.asm_text.specs.declared.places.CodePart.TheVariants as code_parts
-use Rattle.asm_text.specs.declared.places.Place.TheVariants as places
+use Rattle.asm_text.specs.declared.places.ListingPlace.TheVariants as places
 
 -- ---- padding
 

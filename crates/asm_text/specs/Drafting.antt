@@ -17,8 +17,8 @@ use Rattle.asm_text.specs.declared.items.Item.{Item}
 use Rattle.asm_text.specs.declared.items.Item.TheVariants.{FileHead, Entry, Interface, MemberHead}
 use Rattle.asm_text.specs.declared.items.Item.TheVariants.{Attribute, InitialValue, CodeHead}
 use Rattle.asm_text.specs.declared.items.Item.TheVariants.{CodeBytes, Instruction, Row, End}
-use Rattle.asm_text.specs.declared.places.Place.{Place}
-use Rattle.asm_text.specs.declared.places.Place.TheVariants as places
+use Rattle.asm_text.specs.declared.places.ListingPlace.{ListingPlace}
+use Rattle.asm_text.specs.declared.places.ListingPlace.TheVariants as places
 use Rattle.asm_text.specs.declared.drafts.Draft.{Draft}
 
 abbrev pub member_of : (flags name descriptor : ℕ) → Member
@@ -86,21 +86,21 @@ with_code_attr k x = record k { attrs = k.attrs ++ x ∷ [] }
 
 -- ---- lines
 
-abbrev pub attr_added : Place → Draft → Attr → Draft
+abbrev pub attr_added : ListingPlace → Draft → Attr → Draft
 attr_added (places.Code kind part) d x = draft d.class d.member (with_code_attr d.code x)
 attr_added (places.Member kind) d x =
     draft d.class (with_member_attr d.member (member_attrs.Other x)) d.code
 attr_added place d x = draft (with_attr d.class x) d.member d.code
 
 -- the open code or the open member ends
-abbrev pub draft_ended : Place → Draft → Draft
+abbrev pub draft_ended : ListingPlace → Draft → Draft
 draft_ended (places.Code kind part) d =
     draft d.class (with_member_attr d.member (member_attrs.Code d.code)) empty_code
 draft_ended (places.Member kind) d = draft (with_member kind d.class d.member) no_member d.code
 draft_ended place d = d
 
 -- a line at its place
-abbrev pub line_added : Place → Draft → Item → Draft
+abbrev pub line_added : ListingPlace → Draft → Item → Draft
 line_added place d (FileHead minor major flags class super) =
     draft (record d.class
     { minor = minor; major = major; flags = flags; this_class = class; super_class = super })
@@ -121,12 +121,12 @@ line_added place d (Instruction opcode operands) =
 line_added place d (Row x) = draft d.class d.member (with_row d.code x)
 line_added place d End = draft_ended place d
 
-abbrev pub place_or : Place → Option Place → Place
+abbrev pub place_or : ListingPlace → Option ListingPlace → ListingPlace
 place_or place None = place
 place_or place (Some next) = next
 
 -- lines that follow one another
-abbrev pub drafted : Place → Draft → List Item → Draft
+abbrev pub drafted : ListingPlace → Draft → List Item → Draft
 drafted place d [] = d
 drafted place d (item ∷ items) =
     drafted (place_or place (place_after place item)) (line_added place d item) items

@@ -11,8 +11,8 @@ use Rattle.asm_text.specs.declared.places.ClassPart.{ClassPart}
 use Rattle.asm_text.specs.declared.places.ClassPart.TheVariants as parts
 use Rattle.asm_text.specs.declared.places.CodePart.{CodePart}
 use Rattle.asm_text.specs.declared.places.CodePart.TheVariants as code_parts
-use Rattle.asm_text.specs.declared.places.Place.{Place}
-use Rattle.asm_text.specs.declared.places.Place.TheVariants.{Start, Class, Member, Code}
+use Rattle.asm_text.specs.declared.places.ListingPlace.{ListingPlace}
+use Rattle.asm_text.specs.declared.places.ListingPlace.TheVariants.{Start, Class, Member, Code}
 
 -- the order of the parts of a class
 abbrev pub class_rank : ClassPart → ℕ
@@ -33,14 +33,14 @@ part_of kinds.Field = parts.Fields
 part_of kinds.Method = parts.Methods
 
 -- a line of one part may stand in this part, behind which the listing is at a place
-abbrev pub in_class : ClassPart → ClassPart → Place → Option Place
+abbrev pub in_class : ClassPart → ClassPart → ListingPlace → Option ListingPlace
 in_class own part next = if nat_lt (class_rank own) (class_rank part) then None else Some next
 
-abbrev pub in_code : CodePart → CodePart → Place → Option Place
+abbrev pub in_code : CodePart → CodePart → ListingPlace → Option ListingPlace
 in_code own part next = if nat_lt (code_rank own) (code_rank part) then None else Some next
 
 -- the place behind a line; None: no such line has a form at the place before
-abbrev pub place_after : Place → Item → Option Place
+abbrev pub place_after : ListingPlace → Item → Option ListingPlace
 place_after Start (FileHead minor major flags class super) = Some (Class parts.Constants)
 place_after (Class part) (Entry c) = in_class parts.Constants part (Class parts.Constants)
 place_after (Class part) (Interface class) = in_class parts.Interfaces part (Class parts.Interfaces)
@@ -62,16 +62,17 @@ place_after (Code kind part) End = Some (Member kind)
 place_after place item = None
 
 -- the place behind lines that follow one another
-abbrev pub behind_next : Option Place → (Place → Option Place) → Option Place
+abbrev pub behind_next : Option ListingPlace → (ListingPlace → Option ListingPlace)
+    → Option ListingPlace
 behind_next None more = None
 behind_next (Some place) more = more place
 
-abbrev pub place_behind : Place → List Item → Option Place
+abbrev pub place_behind : ListingPlace → List Item → Option ListingPlace
 place_behind place [] = Some place
 place_behind place (item ∷ items) =
     behind_next (place_after place item) (λ next. place_behind next items)
 
 -- a text may end here
-abbrev pub is_end : Place → Bool
+abbrev pub is_end : ListingPlace → Bool
 is_end (Class part) = true
 is_end place = false

@@ -6,7 +6,7 @@ ghost use Rattle.asm_text.specs.Drafting.{member_of, new_draft, no_class, with_m
 
 use crate::encoding::encode;
 use crate::items::{Item, MemberKind};
-use crate::places::Place;
+use crate::places::ListingPlace;
 use jvm_types::{Attr, Bytes, ClassFile, Code, Constant, Member, MemberAttr, Rows};
 use std::alloc::{AllocError, Global};
 use std::mem::replace;
@@ -75,12 +75,12 @@ pub fn new_draft(alloc: Global) -> Result<Draft, AllocError>
     })
 }
 
-fn add_attr(d: &mut Draft, place: Place, attr: Attr) -> Result<(), AllocError>
+fn add_attr(d: &mut Draft, place: ListingPlace, attr: Attr) -> Result<(), AllocError>
     ensures { OnOk result (d.new ≡ attr_added place d.old attr) }
 {
     match place {
-        Place::Code(_, _) => d.code.attrs.push(attr),
-        Place::Member(_) => d.member.attrs.push(MemberAttr::Other(attr)),
+        ListingPlace::Code(_, _) => d.code.attrs.push(attr),
+        ListingPlace::Member(_) => d.member.attrs.push(MemberAttr::Other(attr)),
         _ => d.class.attrs.push(attr),
     }
 }
@@ -94,15 +94,15 @@ fn add_member(c: &mut ClassFile, kind: MemberKind, member: Member) -> Result<(),
     }
 }
 
-fn end(d: &mut Draft, alloc: Global, place: Place) -> Result<(), AllocError>
+fn end(d: &mut Draft, alloc: Global, place: ListingPlace) -> Result<(), AllocError>
     ensures { OnOk result (d.new ≡ draft_ended place d.old) }
 {
     match place {
-        Place::Code(_, _) => {
+        ListingPlace::Code(_, _) => {
             let code = replace(&mut d.code, code_of(alloc, 0, 0, 0));
             d.member.attrs.push(MemberAttr::Code(code))
         }
-        Place::Member(kind) => {
+        ListingPlace::Member(kind) => {
             let member = replace(&mut d.member, member_of(alloc, 0, 0, 0));
             add_member(&mut d.class, kind, member)
         }
@@ -111,7 +111,7 @@ fn end(d: &mut Draft, alloc: Global, place: Place) -> Result<(), AllocError>
 }
 
 /// Adds a line at its place.
-pub fn add(d: &mut Draft, alloc: Global, place: Place, item: Item) -> Result<(), AllocError>
+pub fn add(d: &mut Draft, alloc: Global, place: ListingPlace, item: Item) -> Result<(), AllocError>
     ensures { OnOk result (d.new ≡ line_added place d.old item) }
 {
     match item {

@@ -27,7 +27,7 @@ pub enum CodePart {
 
 /// Where a listing stands between two lines.
 #[derive(Clone, Copy, Debug, PartialEq, Eq)]
-pub enum Place {
+pub enum ListingPlace {
     Start,
     Class(ClassPart),
     Member(MemberKind),
@@ -66,7 +66,7 @@ fn part_of(kind: MemberKind) -> ClassPart
     }
 }
 
-fn in_class(own: ClassPart, part: ClassPart, next: Place) -> Option<Place>
+fn in_class(own: ClassPart, part: ClassPart, next: ListingPlace) -> Option<ListingPlace>
     ensures { result ≡ in_class own part next }
 {
     if class_rank(own) < class_rank(part) {
@@ -76,7 +76,7 @@ fn in_class(own: ClassPart, part: ClassPart, next: Place) -> Option<Place>
     }
 }
 
-fn in_code(own: CodePart, part: CodePart, next: Place) -> Option<Place>
+fn in_code(own: CodePart, part: CodePart, next: ListingPlace) -> Option<ListingPlace>
     ensures { result ≡ in_code own part next }
 {
     if code_rank(own) < code_rank(part) {
@@ -86,80 +86,92 @@ fn in_code(own: CodePart, part: CodePart, next: Place) -> Option<Place>
     }
 }
 
-fn after_in_class(part: ClassPart, item: &Item) -> Option<Place>
-    ensures { result ≡ place_after (Place.Class part) item.now }
+fn after_in_class(part: ClassPart, item: &Item) -> Option<ListingPlace>
+    ensures { result ≡ place_after (ListingPlace.Class part) item.now }
 {
     match item {
         Item::Entry(_) => in_class(
             ClassPart::Constants,
             part,
-            Place::Class(ClassPart::Constants),
+            ListingPlace::Class(ClassPart::Constants),
         ),
         Item::Interface(_) => in_class(
             ClassPart::Interfaces,
             part,
-            Place::Class(ClassPart::Interfaces),
+            ListingPlace::Class(ClassPart::Interfaces),
         ),
-        Item::MemberHead(kind, _, _, _) => in_class(part_of(*kind), part, Place::Member(*kind)),
+        Item::MemberHead(kind, _, _, _) => in_class(
+            part_of(*kind),
+            part,
+            ListingPlace::Member(*kind),
+        ),
         Item::Attribute(_) => in_class(
             ClassPart::Attributes,
             part,
-            Place::Class(ClassPart::Attributes),
+            ListingPlace::Class(ClassPart::Attributes),
         ),
         _ => None,
     }
 }
 
-fn after_in_member(kind: MemberKind, item: &Item) -> Option<Place>
-    ensures { result ≡ place_after (Place.Member kind) item.now }
+fn after_in_member(kind: MemberKind, item: &Item) -> Option<ListingPlace>
+    ensures { result ≡ place_after (ListingPlace.Member kind) item.now }
 {
     match item {
-        Item::Attribute(_) | Item::InitialValue(_, _) => Some(Place::Member(kind)),
-        Item::CodeHead(_, _, _) => Some(Place::Code(kind, CodePart::Start)),
-        Item::End => Some(Place::Class(part_of(kind))),
+        Item::Attribute(_) | Item::InitialValue(_, _) => Some(ListingPlace::Member(kind)),
+        Item::CodeHead(_, _, _) => Some(ListingPlace::Code(kind, CodePart::Start)),
+        Item::End => Some(ListingPlace::Class(part_of(kind))),
         _ => None,
     }
 }
 
-fn after_in_code(kind: MemberKind, part: CodePart, item: &Item) -> Option<Place>
-    ensures { result ≡ place_after (Place.Code kind part) item.now }
+fn after_in_code(kind: MemberKind, part: CodePart, item: &Item) -> Option<ListingPlace>
+    ensures { result ≡ place_after (ListingPlace.Code kind part) item.now }
 {
     match item {
-        Item::CodeBytes(_) => in_code(CodePart::Start, part, Place::Code(kind, CodePart::Rows)),
+        Item::CodeBytes(_) => in_code(
+            CodePart::Start,
+            part,
+            ListingPlace::Code(kind, CodePart::Rows),
+        ),
         Item::Instruction(_, _) => in_code(
             CodePart::Instructions,
             part,
-            Place::Code(kind, CodePart::Instructions),
+            ListingPlace::Code(kind, CodePart::Instructions),
         ),
-        Item::Row(_) => in_code(CodePart::Rows, part, Place::Code(kind, CodePart::Rows)),
+        Item::Row(_) => in_code(
+            CodePart::Rows,
+            part,
+            ListingPlace::Code(kind, CodePart::Rows),
+        ),
         Item::Attribute(_) => in_code(
             CodePart::Attributes,
             part,
-            Place::Code(kind, CodePart::Attributes),
+            ListingPlace::Code(kind, CodePart::Attributes),
         ),
-        Item::End => Some(Place::Member(kind)),
+        Item::End => Some(ListingPlace::Member(kind)),
         _ => None,
     }
 }
 
 /// The place behind a line, or `None` where it may not stand there.
-pub fn after(place: Place, item: &Item) -> Option<Place>
+pub fn after(place: ListingPlace, item: &Item) -> Option<ListingPlace>
     ensures { result ≡ place_after place item.now }
 {
     match place {
-        Place::Start => match item {
-            Item::FileHead(_, _, _, _, _) => Some(Place::Class(ClassPart::Constants)),
+        ListingPlace::Start => match item {
+            Item::FileHead(_, _, _, _, _) => Some(ListingPlace::Class(ClassPart::Constants)),
             _ => None,
         },
-        Place::Class(part) => after_in_class(part, item),
-        Place::Member(kind) => after_in_member(kind, item),
-        Place::Code(kind, part) => after_in_code(kind, part, item),
+        ListingPlace::Class(part) => after_in_class(part, item),
+        ListingPlace::Member(kind) => after_in_member(kind, item),
+        ListingPlace::Code(kind, part) => after_in_code(kind, part, item),
     }
 }
 
 /// Whether a text may end here.
-pub fn is_end(place: Place) -> bool
+pub fn is_end(place: ListingPlace) -> bool
     ensures { result ≡ is_end place }
 {
-    matches!(place, Place::Class(_))
+    matches!(place, ListingPlace::Class(_))
 }

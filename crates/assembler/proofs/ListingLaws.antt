@@ -7,13 +7,13 @@ use Rattle.asm_text.specs.ClassLines.{constant_line, interface_line, attr_line, 
 use Rattle.asm_text.specs.{CodeLines.{high_of, case_values, operands, names_local, insn_line, are_insns, code_lines, bytes_line}, Drafting.{drafted, new_draft}}
 use Rattle.asm_text.specs.{Items.{item_line, items_text, ItemFits, member_keyword}, Lines.{Number, Signed, Line, line_text, text_of, values_text}}
 use Rattle.asm_text.specs.{Places.{place_behind, behind_next, place_after, is_end}, Reading.rough_item, declared.{drafts.Draft.Draft, items.Item.Item}}
-use Rattle.asm_text.specs.declared.{items.{Item.TheVariants.{Entry, Interface, Attribute, Row}, MemberKind.MemberKind}, places.Place.Place}
+use Rattle.asm_text.specs.declared.{items.{Item.TheVariants.{Entry, Interface, Attribute, Row}, MemberKind.MemberKind}, places.ListingPlace.ListingPlace}
 use Rattle.asm_text.proofs.{ClassBuildLaws.{code_attr_items, member_attr_items, member_items, class_items, class_leads}, CodeBuildLaws.{insn_item, code_items, code_items_by}, EncodeLaws.number_of}
 use Rattle.asm_text.proofs.{FitLaws.class_fits, LineLaws.{line_body, read_back, body_has_no_newline}, WordLaws.same_line}
 use Rattle.assembler.{specs.{Assembling.{HasFirstLines, IsFormed, ListsAtMostOneClass, ListingsAreFormed}, Drafted.IsWholeDraft}, proofs.TextLaws.items_append}
 use Rattle.jvm_types.specs.declared.class_file.MemberAttr.TheVariants as member_attrs
 use Rattle.asm_text.specs.declared.items.MemberKind.TheVariants as kinds
-use Rattle.asm_text.specs.declared.places.Place.TheVariants as places
+use Rattle.asm_text.specs.declared.places.ListingPlace.TheVariants as places
 
 -- ---- the text of a class is that of its lines one by one
 
@@ -122,7 +122,7 @@ continues (x ∷ xs) (y ∷ ys) rest f g e =
 listed_text : (text : List ℕ) (c : ClassFile) → Lists text c → text ≡ items_text (class_items c)
 listed_text text c h = h.listed ∙ class_text c
 
-begun : (text : List ℕ) (c : ClassFile) (items : List Item) (place : Place) (rest : List ℕ) → Lists text c → HasFirstLines text items place rest → Continues items (class_items c) rest
+begun : (text : List ℕ) (c : ClassFile) (items : List Item) (place : ListingPlace) (rest : List ℕ) → Lists text c → HasFirstLines text items place rest → Continues items (class_items c) rest
 begun text c items place rest h b = continues items (class_items c) rest b.fit (class_fits c h.is) (sym b.parts ∙ listed_text text c h)
 
 nothing : (more : List Item) → [] ≡ items_text more → more ≡ []
@@ -141,14 +141,14 @@ formed text d w = record { items = w.items; place = w.place; begins = w.begins; 
 
 -- ---- laws
 
-behind_front : (p : Place) (xs ys : List Item) (q : Place) → place_behind p xs ≡ Some q → place_behind p (xs ++ ys) ≡ place_behind q ys
-behind_front p [] ys q h = ap (λ (x : Place). place_behind x ys) (some_is h)
+behind_front : (p : ListingPlace) (xs ys : List Item) (q : ListingPlace) → place_behind p xs ≡ Some q → place_behind p (xs ++ ys) ≡ place_behind q ys
+behind_front p [] ys q h = ap (λ (x : ListingPlace). place_behind x ys) (some_is h)
   where
-    some_is : {a b : Place} → Some a ≡ Some b → a ≡ b
+    some_is : {a b : ListingPlace} → Some a ≡ Some b → a ≡ b
     some_is e = cc
 behind_front p (x ∷ xs) ys q h = by_next (λ next h. behind_front next xs ys q h) (place_after p x) h
   where
-    by_next : ((next : Place) → place_behind next xs ≡ Some q → place_behind next (xs ++ ys) ≡ place_behind q ys) → (o : Option Place) → behind_next o (λ next. place_behind next xs) ≡ Some q
+    by_next : ((next : ListingPlace) → place_behind next xs ≡ Some q → place_behind next (xs ++ ys) ≡ place_behind q ys) → (o : Option ListingPlace) → behind_next o (λ next. place_behind next xs) ≡ Some q
         → behind_next o (λ next. place_behind next (xs ++ ys)) ≡ place_behind q ys
     by_next more None h = absurd (cc)
     by_next more (Some next) h = more next h
@@ -164,13 +164,13 @@ listings_formed text c number h u =
     fits_behind [] ys f = f
     fits_behind (x ∷ xs) ys f = fits_behind xs ys f.1
 
-    end_is : (place next : Place) → Some place ≡ Some next → is_end next ≡ true → is_end place ≡ false → ⊥
-    end_is place next e t f = let k : is_end next ≡ false = subst (λ (x : Place). is_end x ≡ false) (some_is e) f in cc
+    end_is : (place next : ListingPlace) → Some place ≡ Some next → is_end next ≡ true → is_end place ≡ false → ⊥
+    end_is place next e t f = let k : is_end next ≡ false = subst (λ (x : ListingPlace). is_end x ≡ false) (some_is e) f in cc
       where
-        some_is : {a b : Place} → Some a ≡ Some b → a ≡ b
+        some_is : {a b : ListingPlace} → Some a ≡ Some b → a ≡ b
         some_is e = cc
 
-    blocked : (o : Option Place) (more : Place → Option Place) (next : Place) → o ≡ None → behind_next o more ≡ Some next → ⊥
+    blocked : (o : Option ListingPlace) (more : ListingPlace → Option ListingPlace) (next : ListingPlace) → o ≡ None → behind_next o more ≡ Some next → ⊥
     blocked None more next e k = cc
     blocked (Some x) more next e k = cc
 

@@ -3,9 +3,9 @@ use Rattle.std.proofs.Common.{◌≡◌, ℕ, ◌+◌, ◌≤◌, true, false, L
 use Rattle.std.{specs.List.AllByRecursion, proofs.lemmas.List.append-nil}
 use Rattle.jvm_types.proofs.EachAfter.{all_append}
 use Rattle.asm_text.specs.{Drafting.{line_added, drafted, new_draft, place_or}, Items.{item_line, items_text, ItemFits}, Lines.line_text, Places.{place_after, place_behind, behind_next, is_end}}
-use Rattle.asm_text.{specs.declared.{drafts.Draft.Draft, items.Item.Item, places.Place.Place}, proofs.{LineLaws.{line_body, body_has_no_newline}, WordLaws.{HasNoNewline, same_line}}}
+use Rattle.asm_text.{specs.declared.{drafts.Draft.Draft, items.Item.Item, places.ListingPlace.ListingPlace}, proofs.{LineLaws.{line_body, body_has_no_newline}, WordLaws.{HasNoNewline, same_line}}}
 use Rattle.assembler.specs.{Assembling.{HasFirstLines, IsFirstUnformed}, Drafted.{IsLine, IsNextPlace, AreDrafted, IsWholeDraft, is_whole}}
-use Rattle.asm_text.specs.declared.places.Place.TheVariants as places
+use Rattle.asm_text.specs.declared.places.ListingPlace.TheVariants as places
 
 -- ---- one more line
 
@@ -13,33 +13,33 @@ pub items_append : (xs ys : List Item) → items_text (xs ++ ys) ≡ items_text 
 items_append [] ys = refl
 items_append (x ∷ xs) ys = ap (λ t. line_text (item_line x) ++ t) (items_append xs ys) ∙ sym (append_assoc (line_text (item_line x)) (items_text xs) (items_text ys))
 
-place_more : (p : Place) (xs : List Item) (x : Item) (q r : Place) → place_behind p xs ≡ Some q → place_after q x ≡ Some r → place_behind p (xs ++ x ∷ []) ≡ Some r
-place_more p [] x q r h k = by_next (place_after p x) (subst (λ (y : Place). place_after y x ≡ Some r) (same h) k)
+place_more : (p : ListingPlace) (xs : List Item) (x : Item) (q r : ListingPlace) → place_behind p xs ≡ Some q → place_after q x ≡ Some r → place_behind p (xs ++ x ∷ []) ≡ Some r
+place_more p [] x q r h k = by_next (place_after p x) (subst (λ (y : ListingPlace). place_after y x ≡ Some r) (same h) k)
   where
-    same : {a b : Place} → Some a ≡ Some b → b ≡ a
+    same : {a b : ListingPlace} → Some a ≡ Some b → b ≡ a
     same e = cc
 
-    by_next : (o : Option Place) → o ≡ Some r → behind_next o (λ next. Some next) ≡ Some r
+    by_next : (o : Option ListingPlace) → o ≡ Some r → behind_next o (λ next. Some next) ≡ Some r
     by_next None e = absurd (cc)
     by_next (Some next) e = e
 place_more p (y ∷ xs) x q r h k = by_next (λ next h. place_more next xs x q r h k) (place_after p y) h
   where
-    by_next : ((next : Place) → place_behind next xs ≡ Some q → place_behind next (xs ++ x ∷ []) ≡ Some r) → (o : Option Place) → behind_next o (λ next. place_behind next xs) ≡ Some q → behind_next o (λ next. place_behind next (xs ++ x ∷ [])) ≡ Some r
+    by_next : ((next : ListingPlace) → place_behind next xs ≡ Some q → place_behind next (xs ++ x ∷ []) ≡ Some r) → (o : Option ListingPlace) → behind_next o (λ next. place_behind next xs) ≡ Some q → behind_next o (λ next. place_behind next (xs ++ x ∷ [])) ≡ Some r
     by_next more None h = absurd (cc)
     by_next more (Some next) h = more next h
 
-drafted_more : (p : Place) (d : Draft) (xs : List Item) (x : Item) (q : Place) → place_behind p xs ≡ Some q → drafted p d (xs ++ x ∷ []) ≡ line_added q (drafted p d xs) x
-drafted_more p d [] x q h = ap (λ (y : Place). line_added y d x) (same h)
+drafted_more : (p : ListingPlace) (d : Draft) (xs : List Item) (x : Item) (q : ListingPlace) → place_behind p xs ≡ Some q → drafted p d (xs ++ x ∷ []) ≡ line_added q (drafted p d xs) x
+drafted_more p d [] x q h = ap (λ (y : ListingPlace). line_added y d x) (same h)
   where
-    same : {a b : Place} → Some a ≡ Some b → a ≡ b
+    same : {a b : ListingPlace} → Some a ≡ Some b → a ≡ b
     same e = cc
 drafted_more p d (y ∷ xs) x q h = by_next (λ next h. drafted_more next (line_added p d y) xs x q h) (place_after p y) h
   where
-    by_next : ((next : Place) → place_behind next xs ≡ Some q → drafted next (line_added p d y) (xs ++ x ∷ []) ≡ line_added q (drafted next (line_added p d y) xs) x) → (o : Option Place) → behind_next o (λ next. place_behind next xs) ≡ Some q → drafted (place_or p o) (line_added p d y) (xs ++ x ∷ []) ≡ line_added q (drafted (place_or p o) (line_added p d y) xs) x
+    by_next : ((next : ListingPlace) → place_behind next xs ≡ Some q → drafted next (line_added p d y) (xs ++ x ∷ []) ≡ line_added q (drafted next (line_added p d y) xs) x) → (o : Option ListingPlace) → behind_next o (λ next. place_behind next xs) ≡ Some q → drafted (place_or p o) (line_added p d y) (xs ++ x ∷ []) ≡ line_added q (drafted (place_or p o) (line_added p d y) xs) x
     by_next more None h = absurd (cc)
     by_next more (Some next) h = more next h
 
-pub one_more : (text : List ℕ) (items : List Item) (item : Item) (place next : Place) (rest more : List ℕ) → HasFirstLines text items place rest → ItemFits item → rest ≡ line_text (item_line item) ++ more → place_after place item ≡ Some next
+pub one_more : (text : List ℕ) (items : List Item) (item : Item) (place next : ListingPlace) (rest more : List ℕ) → HasFirstLines text items place rest → ItemFits item → rest ≡ line_text (item_line item) ++ more → place_after place item ≡ Some next
     → HasFirstLines text (items ++ item ∷ []) next more
 one_more text items item place next rest more b f says k = record {
   parts = b.parts ∙ ap (λ t. items_text items ++ t) says ∙ sym (append_assoc (items_text items) (line_text (item_line item)) more)
@@ -60,7 +60,7 @@ whole_and_more line more = append_assoc line (10 ∷ []) more
 longer : (line more : List ℕ) → length more + 1 ≤ length (line ++ 10 ∷ more)
 longer line more = omega (arith, length-append line (10 ∷ more))
 
-pub next_drafted : (text : List ℕ) (place next : Place) (old new : Draft) (number : ℕ) (rest line more : List ℕ) → AreDrafted text place old number rest → IsCut rest line more → IsLine place (line ++ 10 ∷ []) old new next
+pub next_drafted : (text : List ℕ) (place next : ListingPlace) (old new : Draft) (number : ℕ) (rest line more : List ℕ) → AreDrafted text place old number rest → IsCut rest line more → IsLine place (line ++ 10 ∷ []) old new next
     → AreDrafted text next new (number + 1) more
 next_drafted text place next old new number rest line more a cut l = record {
   items = a.items ++ l.item ∷ [];
@@ -74,7 +74,7 @@ pub none_drafted : (text : List ℕ) (d : Draft) → d ≡ new_draft → AreDraf
 none_drafted text d e = record { items = []; begins = record { parts = refl; fit = tt; follow = refl }; makes = e; counted = refl; short = omega arith }
 
 -- a line that has no form at its place
-pub unformed_line : (text : List ℕ) (place : Place) (old new : Draft) (number : ℕ) (rest line more : List ℕ) → AreDrafted text place old number rest → IsCut rest line more → IsNextPlace place (line ++ 10 ∷ []) old new None
+pub unformed_line : (text : List ℕ) (place : ListingPlace) (old new : Draft) (number : ℕ) (rest line more : List ℕ) → AreDrafted text place old number rest → IsCut rest line more → IsNextPlace place (line ++ 10 ∷ []) old new None
     → IsFirstUnformed text number
 unformed_line text place old new number rest line more a cut none = record {
   items = a.items;
@@ -99,7 +99,7 @@ newline_in [] more h = let k : true ≡ false = h.0 in cc
 newline_in (b ∷ line) more h = newline_in line more h.1
 
 -- the text stops where a line has no newline, or where more lines have to come
-pub unformed_end : (text : List ℕ) (place : Place) (draft : Draft) (number : ℕ) (rest : List ℕ) → AreDrafted text place draft number rest → HasNoNewline rest → is_whole rest place ≡ false → IsFirstUnformed text number
+pub unformed_end : (text : List ℕ) (place : ListingPlace) (draft : Draft) (number : ℕ) (rest : List ℕ) → AreDrafted text place draft number rest → HasNoNewline rest → is_whole rest place ≡ false → IsFirstUnformed text number
 unformed_end text place draft number rest a none w = record {
   items = a.items;
   place = place;
@@ -112,11 +112,11 @@ unformed_end text place draft number rest a none w = record {
   };
 }
 
-nothing_left : (rest : List ℕ) (place : Place) → is_whole rest place ≡ true → (rest ≡ []) × (is_end place ≡ true)
+nothing_left : (rest : List ℕ) (place : ListingPlace) → is_whole rest place ≡ true → (rest ≡ []) × (is_end place ≡ true)
 nothing_left [] place w = (refl, w)
 nothing_left (b ∷ rest) place w = absurd (cc)
 
-pub whole_draft : (text : List ℕ) (place : Place) (draft : Draft) (number : ℕ) (rest : List ℕ) → AreDrafted text place draft number rest → is_whole rest place ≡ true → IsWholeDraft text draft
+pub whole_draft : (text : List ℕ) (place : ListingPlace) (draft : Draft) (number : ℕ) (rest : List ℕ) → AreDrafted text place draft number rest → is_whole rest place ≡ true → IsWholeDraft text draft
 whole_draft text place draft number rest a w = let n = nothing_left rest place w in record {
   items = a.items;
   place = place;

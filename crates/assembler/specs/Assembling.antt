@@ -9,21 +9,21 @@ use Rattle.asm_text.specs.ClassLines.{Lists}
 use Rattle.asm_text.specs.Items.{item_line, items_text, ItemFits}
 use Rattle.asm_text.specs.Places.{place_after, place_behind, is_end}
 use Rattle.asm_text.specs.declared.items.Item.{Item}
-use Rattle.asm_text.specs.declared.places.Place.{Place}
-use Rattle.asm_text.specs.declared.places.Place.TheVariants.{Start}
+use Rattle.asm_text.specs.declared.places.ListingPlace.{ListingPlace}
+use Rattle.asm_text.specs.declared.places.ListingPlace.TheVariants.{Start}
 use Rattle.assembler.specs.declared.asm_error.AsmError.{AsmError}
 use Rattle.assembler.specs.declared.asm_error.AsmError.TheVariants.{Memory, Refused}
 
 -- the text begins with these lines, each of which has a form at its place; what is behind them, and
 -- at which place
-pub record HasFirstLines (text : List ℕ) (items : List Item) (place : Place) (rest : List ℕ)
+pub record HasFirstLines (text : List ℕ) (items : List Item) (place : ListingPlace) (rest : List ℕ)
     : Type 0 where
   pub parts : text ≡ items_text items ++ rest
   pub fit : AllByRecursion ItemFits items
   pub follow : place_behind Start items ≡ Some place
 
 -- no line at the front has a form at the place, or there is none and more lines have to come
-pub record IsUnformed (place : Place) (rest : List ℕ) : Type 0 where
+pub record IsUnformed (place : ListingPlace) (rest : List ℕ) : Type 0 where
   pub front : (item : Item) (more : List ℕ) → ItemFits item
       → rest ≡ line_text (item_line item) ++ more → place_after place item ≡ None
   pub early : rest ≡ [] → is_end place ≡ false
@@ -32,7 +32,7 @@ pub record IsUnformed (place : Place) (rest : List ℕ) : Type 0 where
 -- the last one
 pub record IsFirstUnformed (text : List ℕ) (number : ℕ) : Type 0 where
   pub items : List Item
-  pub place : Place
+  pub place : ListingPlace
   pub rest : List ℕ
   pub begins : HasFirstLines text items place rest
   pub unformed : IsUnformed place rest
@@ -41,7 +41,7 @@ pub record IsFirstUnformed (text : List ℕ) (number : ℕ) : Type 0 where
 -- each line has a form at its place, and the text may end behind the last one
 pub record IsFormed (text : List ℕ) : Type 0 where
   pub items : List Item
-  pub place : Place
+  pub place : ListingPlace
   pub begins : HasFirstLines text items place []
   pub ended : is_end place ≡ true
 

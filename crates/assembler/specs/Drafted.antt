@@ -10,14 +10,15 @@ use Rattle.asm_text.specs.Places.{place_after, is_end}
 use Rattle.asm_text.specs.Drafting.{line_added, drafted, new_draft}
 use Rattle.assembler.specs.Assembling.{HasFirstLines, IsFirstUnformed}
 use Rattle.asm_text.specs.declared.items.Item.{Item}
-use Rattle.asm_text.specs.declared.places.Place.{Place}
-use Rattle.asm_text.specs.declared.places.Place.TheVariants.{Start}
+use Rattle.asm_text.specs.declared.places.ListingPlace.{ListingPlace}
+use Rattle.asm_text.specs.declared.places.ListingPlace.TheVariants.{Start}
 use Rattle.asm_text.specs.declared.drafts.Draft.{Draft}
 use Rattle.assembler.specs.declared.asm_error.AsmError.{AsmError}
 use Rattle.assembler.specs.declared.asm_error.AsmError.TheVariants.{Memory, Refused}
 
 -- a line that has a form at its place, and what it makes of the draft
-pub record IsLine (place : Place) (line : List ℕ) (old new : Draft) (next : Place) : Type 0 where
+pub record IsLine (place : ListingPlace) (line : List ℕ) (old new : Draft) (next : ListingPlace)
+    : Type 0 where
   pub item : Item
   pub fits : ItemFits item
   pub says : line ≡ line_text (item_line item)
@@ -25,20 +26,20 @@ pub record IsLine (place : Place) (line : List ℕ) (old new : Draft) (next : Pl
   pub makes : new ≡ line_added place old item
 
 -- the place behind a line, or that it has no form at its place
-abbrev pub IsNextPlace : Place → List ℕ → Draft → Draft → Option Place → Type 0
+abbrev pub IsNextPlace : ListingPlace → List ℕ → Draft → Draft → Option ListingPlace → Type 0
 IsNextPlace place line old new (Some next) = IsLine place line old new next
 IsNextPlace place line old new None =
     (item : Item) → ItemFits item → line ≡ line_text (item_line item)
     → place_after place item ≡ None
 
 -- a text may end at the place, and nothing is left
-abbrev pub is_whole : List ℕ → Place → Bool
+abbrev pub is_whole : List ℕ → ListingPlace → Bool
 is_whole [] place = is_end place
 is_whole (b ∷ rest) place = false
 
 -- the lines so far
-pub record AreDrafted (text : List ℕ) (place : Place) (draft : Draft) (number : ℕ) (rest : List ℕ)
-    : Type 0 where
+pub record AreDrafted (text : List ℕ) (place : ListingPlace) (draft : Draft) (number : ℕ)
+    (rest : List ℕ) : Type 0 where
   pub items : List Item
   pub begins : HasFirstLines text items place rest
   pub makes : draft ≡ drafted Start new_draft items
@@ -47,7 +48,7 @@ pub record AreDrafted (text : List ℕ) (place : Place) (draft : Draft) (number 
 
 pub record IsWholeDraft (text : List ℕ) (draft : Draft) : Type 0 where
   pub items : List Item
-  pub place : Place
+  pub place : ListingPlace
   pub begins : HasFirstLines text items place []
   pub ended : is_end place ≡ true
   pub makes : draft ≡ drafted Start new_draft items

@@ -13,7 +13,7 @@ use asm_text::drafts::{Draft, add, new_draft};
 use asm_text::item_reading::read_line;
 use asm_text::line_names::is_same_text;
 use asm_text::listing;
-use asm_text::places::{Place, after, is_end};
+use asm_text::places::{ListingPlace, after, is_end};
 use class_writer::{WriteError, write_class};
 use jvm_types::{ARule, Bytes, ClassFile};
 use std::alloc::{AllocError, Global};
@@ -52,10 +52,10 @@ fn behind(count: usize, text: &[u8]) -> &[u8]
 fn read_next(
     alloc: Global,
     draft: &mut Draft,
-    place: Place,
+    place: ListingPlace,
     line: &[u8],
     whole: &[u8],
-) -> Result<Option<Place>, AllocError>
+) -> Result<Option<ListingPlace>, AllocError>
     requires { whole.now ≡ line.now ++ 10 ∷ [] }
     ensures { IfOk result (λ found. IsNextPlace place whole.now draft.old draft.new found) }
 {
@@ -70,7 +70,7 @@ fn read_next(
 }
 
 /// Whether a text may end at a place, and nothing is left of it.
-fn is_whole(rest: &[u8], place: Place) -> bool
+fn is_whole(rest: &[u8], place: ListingPlace) -> bool
     ensures { result ≡ is_whole rest.now place }
 {
     match rest {
@@ -85,7 +85,7 @@ fn read_draft(alloc: Global, text: &[u8]) -> Result<Draft, AsmError>
     ensures { IsDrafted text.now result }
 {
     let mut draft = new_draft(alloc)?;
-    let mut place = Place::Start;
+    let mut place = ListingPlace::Start;
     let mut number = 1u32;
     let mut rest = text;
     while let Some(end) = line_end(rest) {

@@ -7,7 +7,7 @@ use Rattle.machine_types.specs.{Bounds.FramesFit, Frames.{Top, handler_at, top_o
 use Rattle.machine_types.specs.declared.phase.Phase.{Phase, TheVariants.{Element, Made, Throw}}
 use Rattle.laws_threads.{specs.TopFrames.StandsAt, proofs.{Callers.handlers_fit, TopStand.{made_stand, thrown_stand}}}
 use Rattle.frames.specs.FrameLists.{top, max_stack}
-use Rattle.instr_steps.specs.Places.{IsTopAt, Place, at_place}
+use Rattle.instr_steps.specs.Places.{IsTopAt, CurrentInsn, at_place}
 
 some_frame_in : (phase : Phase) (frames : List Frame) (roots : List ℕ) → (FramesFit phase [] roots → ⊥) → FramesFit phase frames roots → 0 < length frames
 some_frame_in phase [] roots none fit = absurd (none fit)
@@ -50,13 +50,13 @@ in_throw c s x class marked l phase =
     let thrown = (subst (λ (ph : Phase). PhaseHolds c (within c.program) ph s.frames) phase l.typed.values.phase).1 in
     record { some = some; thrown = thrown; found = rw (thrown_stand c s.frames marked thrown some).1.found refl }
 
-pub thrown_at : (c : MarkedProgram) (frames : List Frame) (place : Place) → IsMarked c → FramesThrown c (within c.program) frames → 0 < length frames
+pub thrown_at : (c : MarkedProgram) (frames : List Frame) (place : CurrentInsn) → IsMarked c → FramesThrown c (within c.program) frames → 0 < length frames
     → top_of c.program frames ≡ Some (at_place frames place) → IsTopAt c.program frames place
 thrown_at c frames place marked thrown some found =
     let stands = thrown_stand c frames marked thrown some in
     subst (λ (at : Top). StandsAt c.program frames at) (same_some (sym stands.1.found ∙ found)) stands.1
 
-pub handler_room : (c : MarkedProgram) (frames : List Frame) (place : Place) (class : ℕ) → IsMarked c → FramesThrown c (within c.program) frames → top_of c.program frames ≡ Some (at_place frames place)
+pub handler_room : (c : MarkedProgram) (frames : List Frame) (place : CurrentInsn) (class : ℕ) → IsMarked c → FramesThrown c (within c.program) frames → top_of c.program frames ≡ Some (at_place frames place)
     → IsSome (handler_at class (at_place frames place)) → 0 < place.method.max_stack
 handler_room c frames place class marked thrown found catches = by_row (handler_at class (at_place frames place)) refl catches
   where

@@ -20,7 +20,7 @@ use crate::checks::passes;
 use crate::monitors::{enter, leave, notify, notify_all, wait};
 use crate::moves::{run_on, run_to, throw};
 use crate::objects::{index, make, measure, print, raise};
-use crate::places::Place;
+use crate::places::CurrentInsn;
 use checked_program::Checked;
 use frames::{ThreadState, count_instruction};
 use heap_words::header;
@@ -42,7 +42,7 @@ fn look_up(otherwise: u32, cases: &[Case], stack: &[u64]) -> Effect
 
 /// The effect of the instruction at which the top frame stands.
 #[inline(always)]
-pub fn effect_here(s: &ThreadState, p: &Checked, place: &Place) -> Effect
+pub fn effect_here(s: &ThreadState, p: &Checked, place: &CurrentInsn) -> Effect
     requires some { 0 < length s.now.frames }
     requires stands { IsTopAt p.now.program s.now.frames place.now }
     ensures { result ≡ effect_at p.now.program (at_place s.now.frames place.now) }
@@ -61,7 +61,7 @@ pub fn effect_here(s: &ThreadState, p: &Checked, place: &Place) -> Effect
 
 /// What the effect makes of the thread, by the word that it found.
 #[inline(always)]
-pub fn do_effect(s: &mut ThreadState, p: &Checked, place: &Place, effect: Effect, got: u64)
+pub fn do_effect(s: &mut ThreadState, p: &Checked, place: &CurrentInsn, effect: Effect, got: u64)
     requires phase { s.old.phase ≡ Run }
     requires program { p.now ≡ s.old.program }
     requires stands { IsTopAt p.now.program s.old.frames place.now }
@@ -96,7 +96,7 @@ pub fn do_effect(s: &mut ThreadState, p: &Checked, place: &Place, effect: Effect
 
 /// One more instruction: in an attempt behind its check, where it has one.
 #[inline(always)]
-pub fn instruct(s: &mut ThreadState, p: &Checked, place: &Place, effect: Effect, got: u64)
+pub fn instruct(s: &mut ThreadState, p: &Checked, place: &CurrentInsn, effect: Effect, got: u64)
     requires phase { s.old.phase ≡ Run }
     requires program { p.now ≡ s.old.program }
     requires stands { IsTopAt p.now.program s.old.frames place.now }

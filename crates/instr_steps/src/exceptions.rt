@@ -9,7 +9,7 @@ ghost use Rattle.machine_types.specs.ReadyObjects.{class_of};
 ghost use Rattle.frames.specs.FrameLists.{top, with_top};
 ghost use Rattle.instr_steps.specs.Places.{IsTopAt, at_place};
 
-use crate::places::Place;
+use crate::places::CurrentInsn;
 use checked_program::Checked;
 use code_table::is_subclass;
 use frames::{ThreadState, runs};
@@ -38,7 +38,7 @@ fn handler(pc: u32, class: u16, rows: &[Row]) -> Option<u32>
 }
 
 /// The top frame goes on at a handler, with the exception alone on its stack.
-fn go_to_handler(s: &mut ThreadState, p: &Checked, place: &Place, x: u32, to: u32)
+fn go_to_handler(s: &mut ThreadState, p: &Checked, place: &CurrentInsn, x: u32, to: u32)
     requires program { p.now ≡ s.old.program }
     requires stands { IsTopAt p.now.program s.old.frames place.now }
     requires room { 0 < place.now.method.max_stack }
@@ -69,7 +69,7 @@ pub fn unwind(s: &mut ThreadState, x: u32, class: Thrown)
 
 /// The top frame ends by an exception that none of its rows catches, a synchronized method's when
 /// it has left its monitor.
-fn end_by(s: &mut ThreadState, p: &Checked, place: &Place, x: u32, class: Thrown)
+fn end_by(s: &mut ThreadState, p: &Checked, place: &CurrentInsn, x: u32, class: Thrown)
     requires program { p.now ≡ s.old.program }
     requires stands { IsTopAt p.now.program s.old.frames place.now }
     requires receiver { (top s.old.frames).receiver < 4294967296 }
@@ -85,7 +85,7 @@ fn end_by(s: &mut ThreadState, p: &Checked, place: &Place, x: u32, class: Thrown
 }
 
 /// The exception is handed to the top frame: a handler catches it, or the frame ends by it.
-pub fn hand(s: &mut ThreadState, p: &Checked, place: &Place, x: u32, class: Thrown)
+pub fn hand(s: &mut ThreadState, p: &Checked, place: &CurrentInsn, x: u32, class: Thrown)
     requires program { p.now ≡ s.old.program }
     requires stands { IsTopAt p.now.program s.old.frames place.now }
     requires receiver { (top s.old.frames).receiver < 4294967296 }

@@ -11,7 +11,7 @@ ghost use Rattle.instr_steps.specs.NextPlace.{IsEffectHere, IsNext};
 ghost use Rattle.instr_steps.specs.Places.{at_place};
 
 use crate::effecting::{effect_here, instruct};
-use crate::places::{Place, next_place};
+use crate::places::{CurrentInsn, next_place};
 use crate::running::{go_alone, want_of};
 use checked_program::Checked;
 use frames::ThreadState;
@@ -54,7 +54,7 @@ pub fn run_or_want(s: &mut ThreadState, p: &Checked) -> Option<InsnWant>
 
 /// The effect that was told is that of the instruction at the place.
 #[inline(always)]
-fn effect_told(_s: &ThreadState, _p: &Checked, _place: &Place, effect: Effect) -> Effect
+fn effect_told(_s: &ThreadState, _p: &Checked, _place: &CurrentInsn, effect: Effect) -> Effect
     requires next { IsNext _p.now _s.now _place.now }
     requires effect { IsEffectHere _p.now _s.now effect }
     ensures { result ≡ effect_at _p.now.program (at_place _s.now.frames _place.now) }

@@ -19,5 +19,5 @@ pub use calls::given_back;
 pub use did::Did;
 pub use halves::{InsnWant, run_by, run_or_want};
 pub use phases::{begin_root, dispatch, finish_element, go_after, store_header};
-pub use places::{Place, method_of};
+pub use places::{CurrentInsn, method_of};
 pub use running::{local, run, run_want, run_with};

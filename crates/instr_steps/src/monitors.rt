@@ -12,14 +12,14 @@ ghost use Rattle.machine_types.specs.declared.effect.Effect.TheVariants.{Notifie
 ghost use Rattle.instr_steps.specs.Places.{CanGo, IsTopAt, at_place};
 
 use crate::moves::{move_on, throw};
-use crate::places::Place;
+use crate::places::CurrentInsn;
 use checked_program::Checked;
 use frames::{ThreadState, runs};
 use jvm_types::Thrown;
 use machine_types::{After, Kept, Phase, Toward};
 
 /// The thread is to enter a monitor.
-pub fn enter(s: &mut ThreadState, p: &Checked, place: &Place, monitor: u64)
+pub fn enter(s: &mut ThreadState, p: &Checked, place: &CurrentInsn, monitor: u64)
     requires program { p.now ≡ s.old.program }
     requires stands { IsTopAt p.now.program s.old.frames place.now }
     requires row { CanGo p.now.program s.old.frames place.now }
@@ -34,7 +34,7 @@ pub fn enter(s: &mut ThreadState, p: &Checked, place: &Place, monitor: u64)
 }
 
 /// The thread is to leave a monitor.
-pub fn leave(s: &mut ThreadState, p: &Checked, place: &Place, monitor: u64)
+pub fn leave(s: &mut ThreadState, p: &Checked, place: &CurrentInsn, monitor: u64)
     requires program { p.now ≡ s.old.program }
     requires stands { IsTopAt p.now.program s.old.frames place.now }
     requires row { CanGo p.now.program s.old.frames place.now }
@@ -48,7 +48,7 @@ pub fn leave(s: &mut ThreadState, p: &Checked, place: &Place, monitor: u64)
 }
 
 /// A wait of a thread that holds the monitor; a flat lock is made fat first.
-pub fn wait(s: &mut ThreadState, p: &Checked, place: &Place, monitor: u64)
+pub fn wait(s: &mut ThreadState, p: &Checked, place: &CurrentInsn, monitor: u64)
     requires program { p.now ≡ s.old.program }
     requires stands { IsTopAt p.now.program s.old.frames place.now }
     requires row { CanGo p.now.program s.old.frames place.now }
@@ -71,7 +71,7 @@ pub fn wait(s: &mut ThreadState, p: &Checked, place: &Place, monitor: u64)
 }
 
 /// A notify of a thread that holds the monitor. On a flat lock nobody waits.
-pub fn notify(s: &mut ThreadState, p: &Checked, place: &Place, monitor: u64)
+pub fn notify(s: &mut ThreadState, p: &Checked, place: &CurrentInsn, monitor: u64)
     requires program { p.now ≡ s.old.program }
     requires stands { IsTopAt p.now.program s.old.frames place.now }
     requires row { CanGo p.now.program s.old.frames place.now }
@@ -94,7 +94,7 @@ pub fn notify(s: &mut ThreadState, p: &Checked, place: &Place, monitor: u64)
 }
 
 /// The same for all that wait.
-pub fn notify_all(s: &mut ThreadState, p: &Checked, place: &Place, monitor: u64)
+pub fn notify_all(s: &mut ThreadState, p: &Checked, place: &CurrentInsn, monitor: u64)
     requires program { p.now ≡ s.old.program }
     requires stands { IsTopAt p.now.program s.old.frames place.now }
     requires row { CanGo p.now.program s.old.frames place.now }

@@ -9,7 +9,7 @@ ghost use Rattle.machine_types.specs.declared.phase.Phase.TheVariants.{Run};
 ghost use Rattle.instr_steps.specs.Places.{IsTopAt, CanGo, at_place};
 
 use crate::going_on::went;
-use crate::places::Place;
+use crate::places::CurrentInsn;
 use checked_program::Checked;
 use frames::{ThreadState, runs};
 use heap_words::ready;
@@ -18,7 +18,7 @@ use machine_types::Phase;
 
 /// The top frame goes on at a pc, with the value that the instruction makes.
 #[inline(always)]
-pub fn move_to(s: &mut ThreadState, p: &Checked, place: &Place, to: u32, made: u64)
+pub fn move_to(s: &mut ThreadState, p: &Checked, place: &CurrentInsn, to: u32, made: u64)
     requires program { p.now ≡ s.old.program }
     requires stands { IsTopAt p.now.program s.old.frames place.now }
     requires row { CanGo p.now.program s.old.frames place.now }
@@ -43,7 +43,7 @@ pub fn move_to(s: &mut ThreadState, p: &Checked, place: &Place, to: u32, made: u
 
 /// The same, to the instruction that follows.
 #[inline(always)]
-pub fn move_on(s: &mut ThreadState, p: &Checked, place: &Place, made: u64)
+pub fn move_on(s: &mut ThreadState, p: &Checked, place: &CurrentInsn, made: u64)
     requires program { p.now ≡ s.old.program }
     requires stands { IsTopAt p.now.program s.old.frames place.now }
     requires row { CanGo p.now.program s.old.frames place.now }
@@ -55,7 +55,7 @@ pub fn move_on(s: &mut ThreadState, p: &Checked, place: &Place, made: u64)
 
 /// The thread goes on at a pc.
 #[inline(always)]
-pub fn go_to(s: &mut ThreadState, p: &Checked, place: &Place, to: u32, made: u64)
+pub fn go_to(s: &mut ThreadState, p: &Checked, place: &CurrentInsn, to: u32, made: u64)
     requires program { p.now ≡ s.old.program }
     requires stands { IsTopAt p.now.program s.old.frames place.now }
     requires row { CanGo p.now.program s.old.frames place.now }
@@ -68,7 +68,7 @@ pub fn go_to(s: &mut ThreadState, p: &Checked, place: &Place, to: u32, made: u64
 
 /// The thread goes on at the instruction that follows.
 #[inline(always)]
-pub fn go_on(s: &mut ThreadState, p: &Checked, place: &Place, made: u64)
+pub fn go_on(s: &mut ThreadState, p: &Checked, place: &CurrentInsn, made: u64)
     requires program { p.now ≡ s.old.program }
     requires stands { IsTopAt p.now.program s.old.frames place.now }
     requires row { CanGo p.now.program s.old.frames place.now }
@@ -91,7 +91,7 @@ pub fn keep_running(s: &mut ThreadState)
 
 /// A thread that runs goes on at a pc.
 #[inline(always)]
-pub fn run_to(s: &mut ThreadState, p: &Checked, place: &Place, to: u32, made: u64)
+pub fn run_to(s: &mut ThreadState, p: &Checked, place: &CurrentInsn, to: u32, made: u64)
     requires phase { s.old.phase ≡ Run }
     requires program { p.now ≡ s.old.program }
     requires stands { IsTopAt p.now.program s.old.frames place.now }
@@ -105,7 +105,7 @@ pub fn run_to(s: &mut ThreadState, p: &Checked, place: &Place, to: u32, made: u6
 
 /// A thread that runs goes on at the instruction that follows.
 #[inline(always)]
-pub fn run_on(s: &mut ThreadState, p: &Checked, place: &Place, made: u64)
+pub fn run_on(s: &mut ThreadState, p: &Checked, place: &CurrentInsn, made: u64)
     requires phase { s.old.phase ≡ Run }
     requires program { p.now ≡ s.old.program }
     requires stands { IsTopAt p.now.program s.old.frames place.now }
@@ -117,7 +117,7 @@ pub fn run_on(s: &mut ThreadState, p: &Checked, place: &Place, made: u64)
 }
 
 /// The thread throws an exception that the machine makes.
-pub fn throw(s: &mut ThreadState, p: &Checked, place: &Place, x: Thrown)
+pub fn throw(s: &mut ThreadState, p: &Checked, place: &CurrentInsn, x: Thrown)
     requires stands { IsTopAt p.now.program s.old.frames place.now }
     ensures { s.new ≡ goes_on s.old (threw x (at_place s.old.frames place.now)) }
 {

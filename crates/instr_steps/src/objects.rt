@@ -12,7 +12,7 @@ ghost use Rattle.machine_types.specs.declared.effect.Effect.TheVariants.{Prints}
 ghost use Rattle.instr_steps.specs.Places.{CanGo, IsTopAt, at_place};
 
 use crate::moves::{go_on, throw};
-use crate::places::Place;
+use crate::places::CurrentInsn;
 use checked_program::Checked;
 use code_table::takes;
 use frames::ThreadState;
@@ -40,7 +40,7 @@ fn int_of(word: u64) -> i32
 pub fn index(
     s: &mut ThreadState,
     p: &Checked,
-    place: &Place,
+    place: &CurrentInsn,
     array: u64,
     index: u64,
     stored: Option<u64>,
@@ -62,7 +62,7 @@ pub fn index(
 }
 
 /// The length of the array whose header was found.
-pub fn measure(s: &mut ThreadState, p: &Checked, place: &Place, got: u64)
+pub fn measure(s: &mut ThreadState, p: &Checked, place: &CurrentInsn, got: u64)
     requires program { p.now ≡ s.old.program }
     requires stands { IsTopAt p.now.program s.old.frames place.now }
     requires row { CanGo p.now.program s.old.frames place.now }
@@ -75,7 +75,7 @@ pub fn measure(s: &mut ThreadState, p: &Checked, place: &Place, got: u64)
 }
 
 /// The object whose header was found is thrown.
-pub fn raise(s: &mut ThreadState, p: &Checked, place: &Place, x: u64, got: u64)
+pub fn raise(s: &mut ThreadState, p: &Checked, place: &CurrentInsn, x: u64, got: u64)
     requires stands { IsTopAt p.now.program s.old.frames place.now }
     requires reference { x < p.now.program.heap }
     ensures { s.new ≡ goes_on_if s.old (option_map
@@ -90,7 +90,7 @@ pub fn raise(s: &mut ThreadState, p: &Checked, place: &Place, x: u64, got: u64)
 }
 
 /// How many values the instruction at which the top frame stands takes from its stack.
-fn top_takes(s: &ThreadState, p: &Checked, place: &Place) -> u16
+fn top_takes(s: &ThreadState, p: &Checked, place: &CurrentInsn) -> u16
     requires stands { IsTopAt p.now.program s.now.frames place.now }
     requires row { CanGo p.now.program s.now.frames place.now }
     ensures { result ≡ length (top_row p.now.program (at_place s.now.frames place.now)).takes }
@@ -103,7 +103,7 @@ fn top_takes(s: &ThreadState, p: &Checked, place: &Place) -> u16
 }
 
 /// A new object at the word that was free, where the heap has room for it.
-pub fn make(s: &mut ThreadState, p: &Checked, place: &Place, word: u64, size: u64, free: u64)
+pub fn make(s: &mut ThreadState, p: &Checked, place: &CurrentInsn, word: u64, size: u64, free: u64)
     requires program { p.now ≡ s.old.program }
     requires stands { IsTopAt p.now.program s.old.frames place.now }
     requires row { CanGo p.now.program s.old.frames place.now }
@@ -129,7 +129,7 @@ pub fn has_print_left(s: &ThreadState) -> bool
 }
 
 /// A print with its ticket, or the end of a thread that may not print once more.
-pub fn print(s: &mut ThreadState, p: &Checked, place: &Place, value: u64, ticket: u64)
+pub fn print(s: &mut ThreadState, p: &Checked, place: &CurrentInsn, value: u64, ticket: u64)
     requires program { p.now ≡ s.old.program }
     requires stands { IsTopAt p.now.program s.old.frames place.now }
     requires row { CanGo p.now.program s.old.frames place.now }

@@ -17,17 +17,17 @@ use std::marker::Model;
 
 /// An instruction of a method, with what its constant names.
 #[derive(Debug, Drop)]
-pub struct Place<'a> {
+pub struct CurrentInsn<'a> {
     method: &'a MethodInfo,
     insn: &'a Insn,
     /// The number of the instruction, and of its target.
     number: usize,
 }
 
-impl<'a> Model for Place<'a> {
+impl<'a> Model for CurrentInsn<'a> {
     ghost use Rattle.std.specs.Prelude.{◌<◌, length, slice_index_or};
     ghost use Rattle.jvm_types.specs.declared.program.Target.TheVariants.{Nothing};
-    ghost use Rattle.instr_steps.specs.Places.{Place as At};
+    ghost use Rattle.instr_steps.specs.Places.{CurrentInsn as At};
 
     ghost Value = { At };
 
@@ -49,17 +49,17 @@ fn target_at(targets: &Rows<Target>, i: usize) -> Target
     targets.as_slice()[i]
 }
 
-impl<'a> Place<'a> {
+impl<'a> CurrentInsn<'a> {
     /// The instruction of a number in the code of a method.
     #[inline(always)]
-    pub fn of(method: &'a MethodInfo, number: usize) -> Place<'a>
+    pub fn of(method: &'a MethodInfo, number: usize) -> CurrentInsn<'a>
         requires insn { number < length method.now.code }
         requires target { number < length method.now.targets }
         ensures method { result.method ≡ method.now }
         ensures insn { slice_get method.now.code number ≡ Some result.insn }
         ensures target { result.target ≡ slice_index_or method.now.targets number Nothing }
     {
-        Place {
+        CurrentInsn {
             method,
             insn: insn_at(&method.code, number),
             number,
@@ -82,10 +82,10 @@ impl<'a> Place<'a> {
 
     /// A copy for calls that are not inlined, so that this one needs no place in memory.
     #[inline(always)]
-    pub fn again(&self) -> Place<'a>
+    pub fn again(&self) -> CurrentInsn<'a>
         ensures { result ≡ self.now }
     {
-        Place {
+        CurrentInsn {
             method: self.method,
             insn: self.insn,
             number: self.number,
@@ -125,13 +125,13 @@ fn insn_at(code: &Rows<Insn>, i: usize) -> &Insn
 
 /// The place of the top frame, which has one.
 #[inline(always)]
-pub fn place_of<'a>(s: &ThreadState, p: &'a Checked) -> Place<'a>
+pub fn place_of<'a>(s: &ThreadState, p: &'a Checked) -> CurrentInsn<'a>
     requires { IsSome (top_of p.now.program s.now.frames) }
     ensures { top_of p.now.program s.now.frames ≡ Some (at_place s.now.frames result) }
 {
     let method = method_of(p, s.method());
     match p.number_at(s.method(), s.pc()) {
-        Some(i) => Place {
+        Some(i) => CurrentInsn {
             method,
             insn: insn_at(&method.code, i),
             number: i,
@@ -142,7 +142,7 @@ pub fn place_of<'a>(s: &ThreadState, p: &'a Checked) -> Place<'a>
 
 /// Where the thread makes its next instruction.
 #[inline(always)]
-pub fn next_place<'a>(s: &ThreadState, p: &'a Checked) -> Place<'a>
+pub fn next_place<'a>(s: &ThreadState, p: &'a Checked) -> CurrentInsn<'a>
     requires lawful { IsLawful p.now s.now }
     requires phase { s.now.phase ≡ Run }
     ensures { IsNext p.now s.now result }

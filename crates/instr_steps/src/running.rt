@@ -20,7 +20,7 @@ use crate::did::{Did, did_in};
 use crate::effecting::{effect_here, instruct};
 use crate::moves::{keep_running, move_to};
 use crate::objects::has_print_left;
-use crate::places::{Place, next_place};
+use crate::places::{CurrentInsn, next_place};
 use checked_program::Checked;
 use frames::{ThreadState, count_instruction};
 use instr_effects::{perform, wants};
@@ -51,7 +51,7 @@ pub(crate) fn want_of(s: &ThreadState, effect: Effect) -> Option<Access>
 /// An instruction that only goes on, outside an attempt, where it wants no access. Its count comes
 /// last, so that nothing is written between the looks at the instruction.
 #[inline(always)]
-pub(crate) fn go_alone(s: &mut ThreadState, p: &Checked, place: &Place, to: u32, made: u64)
+pub(crate) fn go_alone(s: &mut ThreadState, p: &Checked, place: &CurrentInsn, to: u32, made: u64)
     requires phase { s.old.phase ≡ Run }
     requires program { p.now ≡ s.old.program }
     requires stands { IsTopAt p.now.program s.old.frames place.now }

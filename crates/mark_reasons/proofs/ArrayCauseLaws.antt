@@ -12,7 +12,7 @@ use Rattle.guard_analysis.proofs.{CallEdges.frames_there, ElementsFound.reads_of
 use Rattle.mark_reasons.specs.{ArrayCauses.{IsMisuseIf, IsMisuseIn, IsMisuseOf, IsNeverMisused}, Causes.{place_read, site_place}}
 use Rattle.jvm_types.specs.declared.code.Op.TheVariants as ops
 use Rattle.jvm_types.specs.declared.program.Target.TheVariants as targets
-use Rattle.mark_reasons.specs.declared.cause.Place.TheVariants as places
+use Rattle.mark_reasons.specs.declared.cause.ReadPlace.TheVariants as places
 
 module _ (p : Program) (tags : List Tags) (class fi mi : ℕ) (m : MethodInfo) (there : slice_get p.methods mi ≡ Some m) where
   pub misuse_there : (t : Tags) (found : Option Against) → slice_get tags mi ≡ Some t → IsMisuseIf (m.class == class) p fi m t.frames found → IsMisuseIn p (tagged_by tags) class fi mi found

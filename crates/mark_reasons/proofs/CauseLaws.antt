@@ -10,11 +10,11 @@ use Rattle.checked_program.{specs.declared.{section.Uses.Uses, tag.{Tag.{Tag, Th
 use Rattle.guard_analysis.{specs.FieldUses.{unguarded_at, unguarded_write}, proofs.{CallEdges.{frames_there, with_tags}, FieldUseLaws.{PutsWell, guarded_if, guarded_not, write_parts}}}
 use Rattle.mark_reasons.specs.ArrayCauses.{KeepsElement}
 use Rattle.mark_reasons.specs.Causes.{is_number, place_read, site_place, writes_at, Bars, IsCause, IsFirstWrite, IsFirstWriteOf, IsMutable, IsWriteFound, KeepsPlace, KeepsField, KeepsStatic, WritesUnguarded}
-use Rattle.mark_reasons.specs.{Firsts.IsFirst, declared.cause.{Cause.Cause, Place.Place}}
+use Rattle.mark_reasons.specs.{Firsts.IsFirst, declared.cause.{Cause.Cause, ReadPlace.ReadPlace}}
 use Rattle.jvm_types.specs.declared.code.Op.TheVariants as ops
 use Rattle.jvm_types.specs.declared.program.Target.TheVariants as targets
 use Rattle.mark_reasons.specs.declared.cause.Cause.TheVariants as causes
-use Rattle.mark_reasons.specs.declared.cause.Place.TheVariants as places
+use Rattle.mark_reasons.specs.declared.cause.ReadPlace.TheVariants as places
 
 -- ---- writes
 
@@ -211,7 +211,7 @@ reads p uses mode (ops.Invokestatic i) (targets.Method u) stack owned five none 
 reads p uses mode op target stack owned five none = omega (arith, five)
 
 -- the field of a place, static or not
-field_number : Option Place → ℕ
+field_number : Option ReadPlace → ℕ
 field_number (Some (places.Field n)) = n
 field_number (Some (places.Static n)) = n
 field_number o = 0
@@ -253,8 +253,8 @@ module _ (p : Program) (tags : Tagged) (uses : Uses) (a : Callee) (i : ℕ) (b :
   place_is : site_place (slice_get p.methods a.method) i ≡ place_read b.insn.op b.target
   place_is = rw (b.at.in_program, b.at.in_code, b.at.names) refl
 
-  cause_by : (place : Option Place) (cause : Cause) → site_place (slice_get p.methods a.method) i ≡ place → KeepsPlace p tags a.mode b.m i b.f.stack place cause → IsCause p tags a i cause
-  cause_by place cause e k = record { m = b.m; insn = b.insn; target = b.target; f = b.f; at = b.at; keeps = subst (λ (o : Option Place). KeepsPlace p tags a.mode b.m i b.f.stack o cause) (sym e ∙ place_is) k }
+  cause_by : (place : Option ReadPlace) (cause : Cause) → site_place (slice_get p.methods a.method) i ≡ place → KeepsPlace p tags a.mode b.m i b.f.stack place cause → IsCause p tags a i cause
+  cause_by place cause e k = record { m = b.m; insn = b.insn; target = b.target; f = b.f; at = b.at; keeps = subst (λ (o : Option ReadPlace). KeepsPlace p tags a.mode b.m i b.f.stack o cause) (sym e ∙ place_is) k }
 
   pub some_place : site_place (slice_get p.methods a.method) i ≡ None → ⊥
   some_place e = reads p uses.fields a.mode b.insn.op b.target b.f.stack (reads_owned uses a.method i) b.fault_is (sym place_is ∙ e)

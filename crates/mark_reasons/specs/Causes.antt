@@ -24,23 +24,23 @@ use Rattle.mark_reasons.specs.ArrayCauses.{IsArrayMemo, KeepsElement}
 use Rattle.mark_reasons.specs.Firsts.{IsFirst}
 use Rattle.mark_reasons.specs.declared.cause.Cause.{Cause}
 use Rattle.mark_reasons.specs.declared.cause.Cause.TheVariants as causes
-use Rattle.mark_reasons.specs.declared.cause.Place.{Place}
-use Rattle.mark_reasons.specs.declared.cause.Place.TheVariants as places
+use Rattle.mark_reasons.specs.declared.cause.ReadPlace.{ReadPlace}
+use Rattle.mark_reasons.specs.declared.cause.ReadPlace.TheVariants as places
 use Rattle.mark_reasons.specs.declared.cause_memo.{CauseMemo.CauseMemo, FieldMemo.FieldMemo}
 
 -- ---- the place that an instruction reads
 
-abbrev pub place_read : Op → Target → Option Place
+abbrev pub place_read : Op → Target → Option ReadPlace
 place_read ops.Iaload target = Some places.Element
 place_read (ops.Getstatic i) (targets.Field fi) = Some (places.Static fi)
 place_read (ops.Getfield i) (targets.Field fi) = Some (places.Field fi)
 place_read op target = None
 
-abbrev pub place_at : Option Insn → Option Target → Option Place
+abbrev pub place_at : Option Insn → Option Target → Option ReadPlace
 place_at (Some insn) (Some target) = place_read insn.op target
 place_at insn target = None
 
-abbrev pub site_place : Option MethodInfo → ℕ → Option Place
+abbrev pub site_place : Option MethodInfo → ℕ → Option ReadPlace
 site_place None i = None
 site_place (Some m) i = place_at (slice_get m.code i) (slice_get m.targets i)
 
@@ -103,7 +103,7 @@ KeepsStatic p tags fi own causes.Static = own ≡ false
 KeepsStatic p tags fi own cause = (own ≡ true) × Bars p tags fi cause
 
 -- in a method that is called so, with these tags of its stack
-abbrev pub KeepsPlace : Program → Tagged → Mode → MethodInfo → (i : ℕ) → List Tag → Option Place
+abbrev pub KeepsPlace : Program → Tagged → Mode → MethodInfo → (i : ℕ) → List Tag → Option ReadPlace
     → Cause → Type 0
 KeepsPlace p tags mode m i stack (Some places.Element) cause = KeepsElement p tags mode m i cause
 KeepsPlace p tags mode m i stack (Some (places.Static fi)) cause =

@@ -16,7 +16,7 @@ ghost use Rattle.mark_reasons.specs.Causes.{Bars, IsCause, IsFirstWriteOf, IsMut
 ghost use Rattle.mark_reasons.specs.Causes.{IsCauseMemo, IsFieldMemo, KeepsField, KeepsStatic};
 ghost use Rattle.mark_reasons.specs.Reasons.{callee_of};
 ghost use Rattle.mark_reasons.specs.Firsts.{IsFirst};
-ghost use Rattle.mark_reasons.specs.declared.cause.Place.TheVariants.{Element as element};
+ghost use Rattle.mark_reasons.specs.declared.cause.ReadPlace.TheVariants.{Element as element};
 
 use crate::array_causes::element_cause;
 use crate::cause_memo::{CauseMemo, FieldMemo};
@@ -61,7 +61,7 @@ pub enum Cause {
 
 /// A place that an instruction reads and that others may write.
 #[derive(Clone, Copy, Debug, PartialEq, Eq)]
-pub enum Place {
+pub enum ReadPlace {
     /// An element of an array.
     Element,
     /// The static field of that number.
@@ -70,17 +70,17 @@ pub enum Place {
     Field(u32),
 }
 
-fn place_read(op: &Op, target: Target) -> Option<Place>
+fn place_read(op: &Op, target: Target) -> Option<ReadPlace>
     ensures { result ≡ place_read op.now target }
 {
     match op {
-        Op::Iaload => Some(Place::Element),
+        Op::Iaload => Some(ReadPlace::Element),
         Op::Getstatic(_) => match target {
-            Target::Field(field) => Some(Place::Static(field)),
+            Target::Field(field) => Some(ReadPlace::Static(field)),
             _ => None,
         },
         Op::Getfield(_) => match target {
-            Target::Field(field) => Some(Place::Field(field)),
+            Target::Field(field) => Some(ReadPlace::Field(field)),
             _ => None,
         },
         _ => None,
@@ -88,7 +88,7 @@ fn place_read(op: &Op, target: Target) -> Option<Place>
 }
 
 /// The place that the instruction of a number reads.
-fn place_at(m: &MethodInfo, i: usize) -> Option<Place>
+fn place_at(m: &MethodInfo, i: usize) -> Option<ReadPlace>
     ensures { result ≡ place_at (slice_get m.now.code i) (slice_get m.now.targets i) }
 {
     match m.code.get(i) {
@@ -100,7 +100,7 @@ fn place_at(m: &MethodInfo, i: usize) -> Option<Place>
     }
 }
 
-fn site_place(p: &Program, site: Site) -> Option<Place>
+fn site_place(p: &Program, site: Site) -> Option<ReadPlace>
     ensures { result ≡ site_place (slice_get p.now.methods site.method) site.at }
 {
     match p.methods.get(site.method as usize) {
@@ -337,7 +337,7 @@ fn place_cause(
     tags: &Rows<Tags>,
     memo: &mut CauseMemo,
     site: Site,
-    place: Place,
+    place: ReadPlace,
 ) -> Result<Cause, AllocError>
     requires program { IsProgram p.now }
     requires few { length p.now.methods ≤ most }
@@ -350,8 +350,8 @@ fn place_cause(
     ensures cause { IfOk result (IsCause p.now (tagged_by tags.now) (callee_of site) site.at) }
 {
     match place {
-        Place::Element => site_element(alloc, p, uses, tags, &mut memo.arrays, site),
-        Place::Static(field) => static_cause(
+        ReadPlace::Element => site_element(alloc, p, uses, tags, &mut memo.arrays, site),
+        ReadPlace::Static(field) => static_cause(
             alloc,
             p,
             uses,
@@ -360,7 +360,7 @@ fn place_cause(
             site.mode,
             field,
         ),
-        Place::Field(field) => field_cause(alloc, p, uses, tags, &mut memo.fields, field),
+        ReadPlace::Field(field) => field_cause(alloc, p, uses, tags, &mut memo.fields, field),
     }
 }
 

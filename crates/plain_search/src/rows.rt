@@ -13,7 +13,7 @@ use std::alloc::AllocError;
 
 /// A place of the table: of a state that is found there, or where it may be put.
 #[derive(Clone, Copy)]
-struct Place {
+struct TableSlot {
     at: usize,
     is_found: bool,
 }
@@ -48,7 +48,7 @@ fn is_state_of(rows: &[Row], number: u64, q: &Plain) -> bool
 }
 
 /// The place in the table of a state, whose number is `state`.
-fn place_of(rows: &[Row], table: &[u64], state: u64, q: &Plain) -> Place
+fn place_of(rows: &[Row], table: &[u64], state: u64, q: &Plain) -> TableSlot
     ensures { result.is_found ≡ true → IsStateIn rows.now q.now.state }
 {
     let mut at = 0;
@@ -61,17 +61,17 @@ fn place_of(rows: &[Row], table: &[u64], state: u64, q: &Plain) -> Place
         }
         let entry = table[at];
         if entry == 0 {
-            return Place {
+            return TableSlot {
                 at,
                 is_found: false,
             };
         }
         if may_be_of(entry, state) && is_state_of(rows, row_of(entry), q) {
-            return Place { at, is_found: true };
+            return TableSlot { at, is_found: true };
         }
         at += 1;
     }
-    Place {
+    TableSlot {
         at: table.len(),
         is_found: false,
     }

@@ -15,6 +15,6 @@ pub use ahead::{Element, Exit, RunLoop, Sort, Touch, run_ahead};
 pub use entry_code::EntryTables;
 pub use halves::{Want, apply_effect, step_or_want};
 pub use instr_effects::perform;
-pub use instr_steps::Place;
+pub use instr_steps::CurrentInsn;
 pub use moving::{apply, event, step_local};
 pub use wanting::want;

@@ -15,7 +15,7 @@ use frames::ThreadState;
 use laws_states::runs_are_safe;
 use machine_types::Access;
 use std::marker::Brand;
-use step_core::{Exit, Place, RunLoop};
+use step_core::{CurrentInsn, Exit, RunLoop};
 
 /// The access of the event that `B` names: one step on one word, which tells what it found.
 #[inline(always)]
@@ -187,7 +187,7 @@ pub(crate) fn access_leaving<B: Making>(
     a: Access,
     _s: &ThreadState,
     _at: &RunLoop,
-    _place: &Place,
+    _place: &CurrentInsn,
     _exit: Exit,
     _t: u8,
 ) -> u64

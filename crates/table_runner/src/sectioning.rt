@@ -16,7 +16,7 @@ use crate::touching::onward_laws;
 use frames::ThreadState;
 use machine_types::Access;
 use std::marker::Brand;
-use step_core::{Exit, Place, RunLoop};
+use step_core::{CurrentInsn, Exit, RunLoop};
 
 /// What came of an instruction that may enter or leave a monitor.
 #[derive(Clone, Copy)]
@@ -40,7 +40,7 @@ pub enum Section {
 fn enter(
     s: &mut ThreadState,
     at: &RunLoop,
-    _place: &Place,
+    _place: &CurrentInsn,
     monitor: u32,
     seat: &mut CoreSeat,
     table: &CoreTable,
@@ -86,7 +86,7 @@ fn enter(
 fn leave<'a>(
     s: &mut ThreadState,
     at: &mut RunLoop<'a>,
-    place: &Place<'a>,
+    place: &CurrentInsn<'a>,
     seat: &mut CoreSeat,
     table: &CoreTable,
     t: u8,
@@ -121,7 +121,7 @@ fn leave<'a>(
 pub(crate) fn pass_monitor<'a>(
     s: &mut ThreadState,
     at: &mut RunLoop<'a>,
-    place: &Place<'a>,
+    place: &CurrentInsn<'a>,
     seat: &mut CoreSeat,
     table: &CoreTable,
     t: u8,

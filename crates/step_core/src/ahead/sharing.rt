@@ -20,7 +20,7 @@ use frames::ThreadState;
 use heap_words::{header_word, variable_word};
 use instr_effects::ints::low;
 use instr_effects::{kept, variable_of};
-use instr_steps::Place;
+use instr_steps::CurrentInsn;
 use jvm_types::{Op, Target};
 use machine_types::{Access, Effect};
 
@@ -76,7 +76,7 @@ impl<'a> RunLoop<'a> {
     /// The access of an instruction that names a field, where it has one, and what the instruction
     /// does to the stack.
     #[inline(always)]
-    pub fn touch_wants(&self, s: &ThreadState, place: &Place) -> Option<Touch>
+    pub fn touch_wants(&self, s: &ThreadState, place: &CurrentInsn) -> Option<Touch>
         requires here { IsAtPlace s.now self.now place.now }
         ensures wants { IfSome result (λ t. Wants s.now self.now t.access) }
         ensures touches { IfSome result (λ t. Touches (effect_there self.now place.now)) }
@@ -134,7 +134,7 @@ impl<'a> RunLoop<'a> {
 
     /// What that instruction makes, by the word that its access found.
     #[inline(always)]
-    pub fn touch_by(&mut self, s: &ThreadState, place: &Place, touch: Touch, got: u64)
+    pub fn touch_by(&mut self, s: &ThreadState, place: &CurrentInsn, touch: Touch, got: u64)
         requires here { IsAtPlace s.now self.old place.now }
         requires touches { Touches (effect_there self.old place.now) }
         requires stack { IsTouch touch.takes touch.gives place.now.insn.op }
@@ -153,7 +153,7 @@ impl<'a> RunLoop<'a> {
 
     /// The element that an instruction accesses, where it does, and its array is no null.
     #[inline(always)]
-    pub fn element_wants(&self, s: &ThreadState, place: &Place) -> Option<Element>
+    pub fn element_wants(&self, s: &ThreadState, place: &CurrentInsn) -> Option<Element>
         requires here { IsAtPlace s.now self.now place.now }
         ensures effect { IfSome result
             (λ e. effect_there self.now place.now ≡ Indexes e.array e.index e.stored) }
@@ -192,7 +192,13 @@ impl<'a> RunLoop<'a> {
     /// The word of the element, by the header that was found, where the index is inside; the
     /// instruction has made its first event then, and the frames are as before.
     #[inline(always)]
-    pub fn element_at(&self, s: &ThreadState, place: &Place, e: Element, header: u64) -> Option<u32>
+    pub fn element_at(
+        &self,
+        s: &ThreadState,
+        place: &CurrentInsn,
+        e: Element,
+        header: u64,
+    ) -> Option<u32>
         requires here { IsAtPlace s.now self.now place.now }
         requires effect { effect_there self.now place.now ≡ Indexes e.array e.index e.stored }
         requires fits { Fits self.now.program (got_to s.now self.now) header }
@@ -209,7 +215,14 @@ impl<'a> RunLoop<'a> {
 
     /// What the instruction makes behind it, by the word that the access to the element found.
     #[inline(always)]
-    pub fn element_by(&mut self, s: &ThreadState, place: &Place, e: Element, word: u32, got: u64)
+    pub fn element_by(
+        &mut self,
+        s: &ThreadState,
+        place: &CurrentInsn,
+        e: Element,
+        word: u32,
+        got: u64,
+    )
         requires here { IsAtPlace s.now self.old place.now }
         requires effect { effect_there self.old place.now ≡ Indexes e.array e.index e.stored }
         ensures { IsElementMadeBy s.now self.old self.new word e.stored got }
