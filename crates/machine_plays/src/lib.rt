@@ -1,5 +1,6 @@
-//! Worked runs of the machine, with what each comes to (`specs/WorkedRuns.antt`). `proofs/` plays
-//! each by computing with the definitions alone, with the plain machine beside it.
+//! Worked runs of the machine, with what each comes to (`specs/WorkedRuns.antt`, and those that go
+//! through the instructions in `WorkedInstructions.antt`). `proofs/` plays each by computing with
+//! the definitions alone, with the plain machine beside it.
 #![tactic(auto)]
 
 ghost use Rattle.machine_plays.specs.Occurring.{AllInstructionsOccur, AllPhasesOccur};
