@@ -55,29 +55,12 @@ module _ (c : MarkedProgram) where
         subst (λ (o : Option Top). IsElementOf (value_word array (low index)) (option_map (doing_at c.program) o)) (sym found) (subst (IsElementBy (value_word array (low index))) (sym is) refl)
 
     led : (was now : Phase) → LeadsTo c.program s got was now → StandsAtElement now (doing_of c s)
-    led _ _ (LeadsTo.to_acquire m tried k) = tt
-    led _ _ (LeadsTo.to_take m count k e) = tt
-    led _ _ (LeadsTo.to_take_fat m r k e) = tt
-    led _ _ (LeadsTo.from_flag m u) = tt
-    led _ _ (LeadsTo.to_grow m count a h e t k) = tt
-    led _ _ (LeadsTo.to_own m toward t) = tt
-    led _ _ (LeadsTo.to_flat_out m a t) = tt
-    led _ _ (LeadsTo.to_no_record m t) = tt
-    led _ _ (LeadsTo.to_fat_in m r toward) = tt
-    led _ _ (LeadsTo.to_wait_out m r) = tt
-    led _ _ (LeadsTo.to_retake m r depth t) = tt
-    led _ _ (LeadsTo.to_notify_one m r t) = tt
-    led _ _ (LeadsTo.to_end e) = tt
     led _ _ (LeadsTo.to_element at array index stored found is t) = by_instruction at array index stored found is
-    led _ _ (LeadsTo.to_no_print at n found is t) = tt
+    led was now k = tt
 
     turned : (was now : Phase) (d : Option Doing) → TurnsTo s got was now → StandsAtElement now d
     turned _ _ d (TurnsTo.looks_again m k) = tt
-    turned _ _ d (TurnsTo.flags m u k e) = tt
-    turned _ _ d (TurnsTo.takes_not m count t) = tt
-    turned _ _ d (TurnsTo.takes_not_fat m r t) = tt
-    turned _ _ d (TurnsTo.waits_on m r depth t) = tt
-    turned _ _ d (TurnsTo.retakes_not m r depth t) = tt
+    turned was now d k = tt
 
     waits : (m : ℕ) (kept : Kept) (now : Phase) (d : Option Doing) → WaitsFrom m kept now → StandsAtElement now d
     waits m _ _ d (WaitsFrom.grows_first count) = tt

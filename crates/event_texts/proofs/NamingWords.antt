@@ -125,27 +125,10 @@ module _ (c : MarkedProgram) (s : Thread) where
   by_phase : (phase : Phase) → StandsAtElement phase (doing_of c s) → IsOf (wanted c s phase) (shared_word_number c.program (shared_word_of s (doing_of c s) phase))
   by_phase phases.Run h = by_top (top_of c.program s.frames)
   by_phase (phases.Element word stored) h = at_element word stored _ (element_word word (doing_of c s) h)
-  by_phase (phases.Made a word) h = refl
   by_phase (phases.Throw x class) h = looked s.attempt
   by_phase (phases.Enter m tried) h = enter_word m (claim s m)
-  by_phase (phases.Acquire m) h = refl
-  by_phase (phases.Take m count) h = refl
-  by_phase (phases.Flag m u) h = refl
-  by_phase (phases.TakeFat m r) h = refl
   by_phase (phases.Leave m a) h = leave_by m (held_at s.held m) s.attempt
-  by_phase (phases.Grow m toward) h = refl
-  by_phase (phases.FlatOut m a) h = refl
-  by_phase (phases.Own m r toward) h = refl
-  by_phase (phases.FatIn m r toward) h = refl
-  by_phase (phases.WaitBit m r) h = refl
-  by_phase (phases.WaitOut m r) h = refl
-  by_phase (phases.WaitLook m r depth) h = refl
-  by_phase (phases.Retake m r depth) h = refl
-  by_phase (phases.NotifyLook m r) h = refl
-  by_phase (phases.NotifyOne m r u) h = refl
-  by_phase (phases.NotifyAll m r) h = refl
-  by_phase (phases.Ending e) h = refl
-  by_phase phase h = tt
+  by_phase phase h = first_of (assumption, cc)
 
 pub names_accessed_words : NamesAccessedWords
 names_accessed_words c cfg hs t s access at e = wanted_of (wanted c s s.phase) _ access (by_phase c s s.phase (run_stands c cfg hs t s at)) e

@@ -138,6 +138,6 @@ pub fn word_of(s: &ThreadState, doing: Option<Doing>) -> SharedWord
         Phase::NotifyLook(m, r) => SharedWord::Waiting(m, r),
         Phase::NotifyOne(m, r, _) => SharedWord::Waiting(m, r),
         Phase::NotifyAll(m, r) => SharedWord::Waiting(m, r),
-        Phase::Idle | Phase::Start | Phase::Ending(_) | Phase::Ended(_) => SharedWord::Null,
+        _ => SharedWord::Null,
     }
 }
