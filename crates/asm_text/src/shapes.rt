@@ -27,7 +27,7 @@ pub enum Shape {
     Lookup,
 }
 
-/// 0x00 to 0x13: a constant is pushed.
+/// Of 0x00 to 0x13, which push a constant, those with operands.
 fn constants(opcode: u8) -> Option<Shape>
     requires { plain_op (first_row (constants opcode)) ≡ None }
     ensures { result ≡ option_map shape_of (first_row (constants opcode)) }
@@ -41,7 +41,7 @@ fn constants(opcode: u8) -> Option<Shape>
     }
 }
 
-/// 0x15 to 0x2e: a local or an element is pushed.
+/// Of 0x15 to 0x2e, which push a local or an element, those with operands.
 fn loads(opcode: u8) -> Option<Shape>
     requires { plain_op (first_row (loads opcode)) ≡ None }
     ensures { result ≡ option_map shape_of (first_row (loads opcode)) }
@@ -52,7 +52,7 @@ fn loads(opcode: u8) -> Option<Shape>
     }
 }
 
-/// 0x36 to 0x4f: a local or an element is written.
+/// Of 0x36 to 0x4f, which write a local or an element, those with operands.
 fn stores(opcode: u8) -> Option<Shape>
     requires { plain_op (first_row (stores opcode)) ≡ None }
     ensures { result ≡ option_map shape_of (first_row (stores opcode)) }
@@ -63,7 +63,7 @@ fn stores(opcode: u8) -> Option<Shape>
     }
 }
 
-/// 0x60 to 0x93: arithmetic on ints, and conversions of an int.
+/// Of 0x60 to 0x93, arithmetic on ints and conversions of an int, those with operands.
 fn arithmetic(opcode: u8) -> Option<Shape>
     requires { plain_op (first_row (arithmetic opcode)) ≡ None }
     ensures { result ≡ option_map shape_of (first_row (arithmetic opcode)) }
@@ -74,7 +74,7 @@ fn arithmetic(opcode: u8) -> Option<Shape>
     }
 }
 
-/// 0x99 to 0xb1: branches, switches and returns.
+/// Of 0x99 to 0xb1, branches, switches and returns, those with operands.
 fn control(opcode: u8) -> Option<Shape>
     requires { plain_op (first_row (control opcode)) ≡ None }
     ensures { result ≡ option_map shape_of (first_row (control opcode)) }
@@ -87,7 +87,7 @@ fn control(opcode: u8) -> Option<Shape>
     }
 }
 
-/// 0xb2 to 0xc8: fields, methods, objects and monitors, and the extended branches.
+/// Of 0xb2 to 0xc8, fields, methods, objects, monitors, extended branches, those with operands.
 fn references(opcode: u8) -> Option<Shape>
     requires { plain_op (first_row (references opcode)) ≡ None }
     ensures { result ≡ option_map shape_of (first_row (references opcode)) }
@@ -101,7 +101,7 @@ fn references(opcode: u8) -> Option<Shape>
     }
 }
 
-/// Of an opcode that has operands or is none of this machine.
+/// The shape of the operands of an opcode that has some, or is none of this machine.
 fn shape_with_operands(opcode: u8) -> Option<Shape>
     requires { plain_op (form_of opcode) ≡ None }
     ensures { result ≡ shape_at opcode }

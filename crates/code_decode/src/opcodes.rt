@@ -20,7 +20,7 @@ fn unknown() -> Result<Found, Stop>
     Err(Stop::Rule(KRule::K1))
 }
 
-/// 0x00 to 0x13: a constant is pushed.
+/// Of 0x00 to 0x13, which push a constant, those with operands.
 fn constants(alloc: Global, opcode: u8, pc: u16, rest: &[u8]) -> Result<Found, Stop>
     requires { plain_op (first_row (constants opcode)) ≡ None }
     ensures { IsDecodeStep pc (first_row (constants opcode)) rest.now result }
@@ -38,7 +38,7 @@ fn constants(alloc: Global, opcode: u8, pc: u16, rest: &[u8]) -> Result<Found, S
     }
 }
 
-/// 0x15 to 0x2e: a local or an element is pushed.
+/// Of 0x15 to 0x2e, which push a local or an element, those with operands.
 fn loads(alloc: Global, opcode: u8, pc: u16, rest: &[u8]) -> Result<Found, Stop>
     requires { plain_op (first_row (loads opcode)) ≡ None }
     ensures { IsDecodeStep pc (first_row (loads opcode)) rest.now result }
@@ -50,7 +50,7 @@ fn loads(alloc: Global, opcode: u8, pc: u16, rest: &[u8]) -> Result<Found, Stop>
     }
 }
 
-/// 0x36 to 0x4f: a local or an element is written.
+/// Of 0x36 to 0x4f, which write a local or an element, those with operands.
 fn stores(alloc: Global, opcode: u8, pc: u16, rest: &[u8]) -> Result<Found, Stop>
     requires { plain_op (first_row (stores opcode)) ≡ None }
     ensures { IsDecodeStep pc (first_row (stores opcode)) rest.now result }
@@ -75,7 +75,7 @@ fn iinc(alloc: Global, pc: u16, rest: &[u8]) -> Result<Found, Stop>
     }
 }
 
-/// 0x60 to 0x93: arithmetic on ints, and conversions of an int.
+/// Of 0x60 to 0x93, arithmetic on ints and conversions of an int, those with operands.
 fn arithmetic(alloc: Global, opcode: u8, pc: u16, rest: &[u8]) -> Result<Found, Stop>
     requires { plain_op (first_row (arithmetic opcode)) ≡ None }
     ensures { IsDecodeStep pc (first_row (arithmetic opcode)) rest.now result }
@@ -86,7 +86,7 @@ fn arithmetic(alloc: Global, opcode: u8, pc: u16, rest: &[u8]) -> Result<Found, 
     }
 }
 
-/// 0x99 to 0xb1: branches, switches and returns.
+/// Of 0x99 to 0xb1, branches, switches and returns, those with operands.
 fn control(alloc: Global, opcode: u8, pc: u16, rest: &[u8]) -> Result<Found, Stop>
     requires { plain_op (first_row (control opcode)) ≡ None }
     ensures { IsDecodeStep pc (first_row (control opcode)) rest.now result }
@@ -157,7 +157,7 @@ fn newarray(alloc: Global, pc: u16, rest: &[u8]) -> Result<Found, Stop>
     }
 }
 
-/// 0xb2 to 0xc8: fields, methods, objects and monitors, and the extended branches.
+/// Of 0xb2 to 0xc8, fields, methods, objects, monitors, extended branches, those with operands.
 fn references(alloc: Global, opcode: u8, pc: u16, rest: &[u8]) -> Result<Found, Stop>
     requires { plain_op (first_row (references opcode)) ≡ None }
     ensures { IsDecodeStep pc (first_row (references opcode)) rest.now result }
