@@ -43,11 +43,11 @@ pub fn went_on(alloc: Global, p: &Checked, at: &At, made: u64) -> Result<Frame, 
 }
 
 /// How many values the instruction takes.
-fn takes(alloc: Global, p: &Checked, at: &At) -> Result<usize, AllocError>
-    ensures { IfOk result (λ n. n ≡ length (top_row p.now.program at.now).takes) }
+fn takes(p: &Checked, at: &At) -> usize
+    ensures { result ≡ length (top_row p.now.program at.now).takes }
 {
-    let row = row_at(alloc, p, at)?;
-    Ok(row.takes.len())
+    let insn = at.insn();
+    code_table::takes(p.program(), at.method(), insn.pc, at.target(), &insn.op)
 }
 
 /// The top frame without what its instruction takes.
@@ -55,7 +55,7 @@ pub fn taken_from(alloc: Global, p: &Checked, at: &At) -> Result<Frame, AllocErr
     ensures { IfOk result (λ f. f ≡ taken_from p.now.program at.now) }
 {
     let frame = at.frame();
-    let stack = Rows::from_slice(alloc, below(frame.stack(), takes(alloc, p, at)?))?;
+    let stack = Rows::from_slice(alloc, below(frame.stack(), takes(p, at)))?;
     frame.moved(alloc, frame.pc(), stack)
 }
 
@@ -66,7 +66,7 @@ pub fn pushed(alloc: Global, p: &Checked, at: &At, reference: u64) -> Result<Fra
     let frame = at.frame();
     let mut stack = Rows::new(alloc);
     stack.push(reference)?;
-    stack.extend_from_slice(below(frame.stack(), takes(alloc, p, at)?))?;
+    stack.extend_from_slice(below(frame.stack(), takes(p, at)))?;
     frame.moved(alloc, at.insn().next, stack)
 }
 
@@ -86,6 +86,6 @@ fn reversed(alloc: Global, values: &[u64]) -> Result<Rows<u64>, AllocError>
 pub fn arguments_of(alloc: Global, p: &Checked, at: &At) -> Result<Rows<u64>, AllocError>
     ensures { IfOk result (λ args. args ≡ arguments_of p.now.program at.now) }
 {
-    let count = takes(alloc, p, at)?;
+    let count = takes(p, at);
     reversed(alloc, above(at.frame().stack(), count))
 }
