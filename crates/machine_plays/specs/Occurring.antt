@@ -56,28 +56,29 @@ instruction_number (ops.IfIcmp c to) = opcode (ops.IfIcmp Eq to)
 instruction_number op = opcode op
 
 -- an instruction that a form makes
-abbrev pub some_op : Form → Op
-some_op (Plain op) = op
-some_op (Byte make) = make 0
-some_op (Short make) = make 0
-some_op (SignedByte make) = make (pos 0)
-some_op (SignedShort make) = make (pos 0)
-some_op (Branch make) = make 0
-some_op (WideBranch make) = make 0
-some_op (LocalAndStep make) = make 0 (pos 0)
-some_op (IntArray op) = op
-some_op Table = ops.Tableswitch 0 (pos 0) []
-some_op Lookup = ops.Lookupswitch 0 []
+abbrev pub made_op : Form → Op
+made_op (Plain op) = op
+made_op (Byte make) = make 0
+made_op (Short make) = make 0
+made_op (SignedByte make) = make (pos 0)
+made_op (SignedShort make) = make (pos 0)
+made_op (Branch make) = make 0
+made_op (WideBranch make) = make 0
+made_op (LocalAndStep make) = make 0 (pos 0)
+made_op (IntArray op) = op
+made_op Table = ops.Tableswitch 0 (pos 0) []
+made_op Lookup = ops.Lookupswitch 0 []
 
 -- whether a number is that of an instruction in the table
 abbrev pub has_this_number : ℕ → Option Form → Bool
 has_this_number n None = false
-has_this_number n (Some form) = instruction_number (some_op form) == n
+has_this_number n (Some form) = instruction_number (made_op form) == n
 
 abbrev pub numbers_from : (n count : ℕ) → List ℕ
 numbers_from n zero = []
 numbers_from n (suc count) = n ∷ numbers_from (suc n) count
 
+-- of each number to 255, whether it is that of an instruction
 abbrev pub instruction_numbers : List Bool
 instruction_numbers = map (λ n. has_this_number n (form_of n)) (numbers_from 0 256)
 
