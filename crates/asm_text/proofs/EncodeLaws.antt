@@ -2,9 +2,9 @@
 use Rattle.std.proofs.Common.{◌≡◌, ℕ, ◌-◌, ◌*◌, ◌/◌, ◌%◌, ◌^◌, ◌<◌, ℤ, pos, Bool, true, false, List, [], ◌∷◌, ◌++◌, length, map, Option, Some, None, refl, sym, ap, subst, ◌∙◌, arith, ◌==◌, ◌-ℤ◌, ◌+ℤ◌, nat_lt, FitsSigned, if◌then◌else◌}
 use Rattle.std.{specs.{Int.{w8, w16, w32, is_in_range}, List.{AllByRecursion, flat_map}}, proofs.lemmas.{Bool.Decides.nat_tests, Int.ints}}
 use Rattle.jvm_types.specs.CodeGrammar.{s1, s2, offset, padding_size, spelled_case, SpellsOperands}
-use Rattle.jvm_types.specs.CodeTable.{Form, Plain, Byte, Short, SignedByte, SignedShort, Branch, WideBranch, LocalAndStep, IntArray, Table, Lookup, FormRows, first_row, form_of, constants, loads, stores, stack_moves, arithmetic, control, references}
-use Rattle.jvm_types.specs.{Numbers.{u1, u2, u4, s4}, declared.code.{Case.Case, Op.Op}}
-use Rattle.jvm_types.specs.declared.code.Op.TheVariants.{Iconst, Iload, Aload, Istore, Astore, Iinc, Tableswitch, Lookupswitch}
+use Rattle.jvm_types.specs.CodeTable.{Form, Plain, Byte, Short, SignedByte, SignedShort, Branch, WideBranch, LocalAndStep, IntArray, Table, Lookup, FormRows, all_moves, move_opcode, first_row, form_of, constants, loads, stores, stack_moves, arithmetic, control, references}
+use Rattle.jvm_types.specs.{Numbers.{u1, u2, u4, s4}, declared.{code.{Case.Case, Op.Op}, stack_move.StackMove.StackMove}}
+use Rattle.jvm_types.specs.declared.code.Op.TheVariants.{Stack, Iconst, Iload, Aload, Istore, Astore, Iinc, Tableswitch, Lookupswitch}
 use Rattle.asm_text.specs.{CodeLines.{high_of, case_values, operands, names_local, values_of}, Encoding.{low1, low2, low4, way, zero_bytes, ways, pair_ways, operand_bytes}}
 use Rattle.asm_text.specs.{Lines.{Value, Number, Signed, Hex}, Operands.{shape_of, is_target}}
 use lib.IntN.{negsuc}
@@ -111,7 +111,11 @@ stores_hold : (b : ℕ) → AllByRecursion (RowHolds b) (stores b)
 stores_hold b = search (at, at_number, low_stores, high_stores) depth 12
 
 stack_moves_hold : (b : ℕ) → AllByRecursion (RowHolds b) (stack_moves b)
-stack_moves_hold b = search (at) depth 12
+stack_moves_hold b = each all_moves
+  where
+    each : (moves : List StackMove) → AllByRecursion (RowHolds b) (map (λ move. (b == move_opcode move, Plain (Stack move))) moves)
+    each [] = tt
+    each (move ∷ moves) = ((λ t. either_empty (names_local b)), each moves)
 
 arithmetic_hold : (b : ℕ) → AllByRecursion (RowHolds b) (arithmetic b)
 arithmetic_hold b = let steps = at 0x84 b (LocalAndStep Iinc) (λ i n. refl) in search (steps, at) depth 24

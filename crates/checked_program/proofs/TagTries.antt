@@ -4,6 +4,7 @@ use Rattle.jvm_types.specs.declared.{program.Row.Row, refusal.SRule.TheVariants.
 use Rattle.checked_program.specs.{LockTags.TagShape, declared.tag.Tag.{Tag, TheVariants.{Untagged, This, At}}}
 use Rattle.checked_program.proofs.TriedPrograms.{Answer, Accepted, Refused, tagged, method, op, names, to_handler, pair, sum}
 use Rattle.jvm_types.specs.declared.code.Op.TheVariants as ops
+use Rattle.jvm_types.specs.declared.stack_move.StackMove.TheVariants as moves
 use Rattle.jvm_types.specs.declared.code.Cmp.TheVariants as cmps
 use Rattle.jvm_types.specs.declared.program.Kind.TheVariants as kinds
 use Rattle.jvm_types.specs.declared.program.Target.TheVariants as targets
@@ -40,29 +41,29 @@ returns_inside = refl
 
 -- a block that is entered on one of two ways
 entered_on_one_way : tagged pair (method 0 (codes "m") [] None 2 2
-    (op 0 1 (ops.Aload 0) ∷ op 1 2 ops.Dup ∷ op 2 3 (ops.Astore 1) ∷ op 3 4 (ops.Iconst (pos 0)) ∷ op 4 7 (ops.If cmps.Eq 9) ∷ op 7 8 (ops.Aload 1) ∷ op 8 9 ops.Monitorenter ∷ op 9 10 ops.Return ∷ []) []) ≡ Refused S3 9
+    (op 0 1 (ops.Aload 0) ∷ op 1 2 (ops.Stack moves.Dup) ∷ op 2 3 (ops.Astore 1) ∷ op 3 4 (ops.Iconst (pos 0)) ∷ op 4 7 (ops.If cmps.Eq 9) ∷ op 7 8 (ops.Aload 1) ∷ op 8 9 ops.Monitorenter ∷ op 9 10 ops.Return ∷ []) []) ≡ Refused S3 9
 entered_on_one_way = refl
 
 -- ---- more refusals
 
 -- the outer of two monitors is left first
 crossed : tagged pair (method 0 (codes "m") (kinds.Ref 1 ∷ []) None 2 3
-    (op 0 1 (ops.Aload 1) ∷ op 1 2 ops.Dup ∷ op 2 3 (ops.Astore 2) ∷ op 3 4 ops.Monitorenter ∷ op 4 5 (ops.Aload 0) ∷ op 5 6 ops.Monitorenter
+    (op 0 1 (ops.Aload 1) ∷ op 1 2 (ops.Stack moves.Dup) ∷ op 2 3 (ops.Astore 2) ∷ op 3 4 ops.Monitorenter ∷ op 4 5 (ops.Aload 0) ∷ op 5 6 ops.Monitorenter
     ∷ op 6 7 (ops.Aload 2) ∷ op 7 8 ops.Monitorexit ∷ op 8 9 ops.Return ∷ []) []) ≡ Refused S4 5
 crossed = refl
 
 -- the inner `monitorenter` is covered, and the outer is left first
 crossed_and_covered : tagged pair (method 0 (codes "m") (kinds.Ref 1 ∷ []) None 2 3
-    (op 0 1 (ops.Aload 1) ∷ op 1 2 ops.Dup ∷ op 2 3 (ops.Astore 2) ∷ op 3 4 ops.Monitorenter ∷ op 4 5 (ops.Aload 0) ∷ op 5 6 ops.Monitorenter
-    ∷ op 6 7 (ops.Aload 2) ∷ op 7 8 ops.Monitorexit ∷ op 8 9 ops.Return ∷ op 9 10 ops.Pop ∷ op 10 11 (ops.Aload 2) ∷ op 11 12 ops.Monitorexit ∷ op 12 13 ops.Return ∷ [])
+    (op 0 1 (ops.Aload 1) ∷ op 1 2 (ops.Stack moves.Dup) ∷ op 2 3 (ops.Astore 2) ∷ op 3 4 ops.Monitorenter ∷ op 4 5 (ops.Aload 0) ∷ op 5 6 ops.Monitorenter
+    ∷ op 6 7 (ops.Aload 2) ∷ op 7 8 ops.Monitorexit ∷ op 8 9 ops.Return ∷ op 9 10 (ops.Stack moves.Pop) ∷ op 10 11 (ops.Aload 2) ∷ op 11 12 ops.Monitorexit ∷ op 12 13 ops.Return ∷ [])
     (to_handler 5 6 9 ∷ [])) ≡ Refused S2 7
 crossed_and_covered = refl
 
 -- an instruction in a block that can throw, and no row that catches all
 abbrev reads_inside : List Row → Answer
 reads_inside rows = tagged pair (method 0 (codes "m") [] None 2 2
-    (op 0 1 (ops.Aload 0) ∷ op 1 2 ops.Monitorenter ∷ op 2 3 (ops.Aload 0) ∷ names 3 6 (ops.Getfield 22) (targets.Field 0) ∷ op 6 7 ops.Pop
-    ∷ op 7 8 (ops.Aload 0) ∷ op 8 9 ops.Monitorexit ∷ op 9 10 ops.Return ∷ op 10 11 ops.Pop ∷ op 11 14 (ops.Goto 7) ∷ []) rows)
+    (op 0 1 (ops.Aload 0) ∷ op 1 2 ops.Monitorenter ∷ op 2 3 (ops.Aload 0) ∷ names 3 6 (ops.Getfield 22) (targets.Field 0) ∷ op 6 7 (ops.Stack moves.Pop)
+    ∷ op 7 8 (ops.Aload 0) ∷ op 8 9 ops.Monitorexit ∷ op 9 10 ops.Return ∷ op 10 11 (ops.Stack moves.Pop) ∷ op 11 14 (ops.Goto 7) ∷ []) rows)
 
 uncovered : reads_inside [] ≡ Refused S4 3
 uncovered = refl
@@ -97,14 +98,14 @@ enters_or_throws = refl
 
 -- a monitor in a static field, as a compiler writes it
 tag_of_dup : tagged pair (method 8 (codes "m") [] None 2 1
-    (names 0 3 (ops.Getstatic 26) (targets.Field 2) ∷ op 3 4 ops.Dup ∷ op 4 5 (ops.Astore 0) ∷ op 5 6 ops.Monitorenter ∷ op 6 7 (ops.Aload 0) ∷ op 7 8 ops.Monitorexit ∷ op 8 9 ops.Return ∷ []) [])
+    (names 0 3 (ops.Getstatic 26) (targets.Field 2) ∷ op 3 4 (ops.Stack moves.Dup) ∷ op 4 5 (ops.Astore 0) ∷ op 5 6 ops.Monitorenter ∷ op 6 7 (ops.Aload 0) ∷ op 7 8 ops.Monitorexit ∷ op 8 9 ops.Return ∷ []) [])
     ≡ Accepted (shape [] (Untagged ∷ []) [] ∷ shape (Untagged ∷ []) (Untagged ∷ []) [] ∷ shape (At 3 ∷ At 3 ∷ []) (Untagged ∷ []) [] ∷ shape (At 3 ∷ []) (At 3 ∷ []) []
     ∷ shape [] (At 3 ∷ []) (At 3 ∷ []) ∷ shape (At 3 ∷ []) (At 3 ∷ []) (At 3 ∷ []) ∷ shape [] (At 3 ∷ []) [] ∷ [])
 tag_of_dup = refl
 
 -- a loop over that `dup`: the tag is taken from the local first
 tag_made_again : tagged pair (method 8 (codes "m") [] None 2 1
-    (names 0 3 (ops.Getstatic 26) (targets.Field 2) ∷ op 3 4 ops.Dup ∷ op 4 5 (ops.Astore 0) ∷ op 5 6 ops.Monitorenter ∷ op 6 9 (ops.Goto 0) ∷ []) []) ≡ Refused S3 0
+    (names 0 3 (ops.Getstatic 26) (targets.Field 2) ∷ op 3 4 (ops.Stack moves.Dup) ∷ op 4 5 (ops.Astore 0) ∷ op 5 6 ops.Monitorenter ∷ op 6 9 (ops.Goto 0) ∷ []) []) ≡ Refused S3 0
 tag_made_again = refl
 
 -- a local with a tag that is stored over
@@ -119,15 +120,15 @@ joined_to_none = refl
 
 -- stack instructions move tags
 moved_on_the_stack : tagged pair (method 0 (codes "m") [] None 3 1
-    (op 0 1 (ops.Aload 0) ∷ op 1 2 (ops.Iconst (pos 1)) ∷ op 2 3 ops.DupX1 ∷ op 3 4 ops.Pop ∷ op 4 5 ops.Dup ∷ op 5 6 ops.Return ∷ []) [])
+    (op 0 1 (ops.Aload 0) ∷ op 1 2 (ops.Iconst (pos 1)) ∷ op 2 3 (ops.Stack moves.DupX1) ∷ op 3 4 (ops.Stack moves.Pop) ∷ op 4 5 (ops.Stack moves.Dup) ∷ op 5 6 ops.Return ∷ []) [])
     ≡ Accepted (shape [] (This ∷ []) [] ∷ shape (This ∷ []) (This ∷ []) [] ∷ shape (Untagged ∷ This ∷ []) (This ∷ []) [] ∷ shape (Untagged ∷ This ∷ Untagged ∷ []) (This ∷ []) []
     ∷ shape (This ∷ Untagged ∷ []) (This ∷ []) [] ∷ shape (This ∷ This ∷ Untagged ∷ []) (This ∷ []) [] ∷ [])
 moved_on_the_stack = refl
 
 -- two monitors, the inner one in the outer
 nested : tagged pair (method 0 (codes "m") [] None 2 2
-    (op 0 1 (ops.Aload 0) ∷ op 1 2 ops.Monitorenter ∷ names 2 5 (ops.Getstatic 26) (targets.Field 2) ∷ op 5 6 ops.Dup ∷ op 6 7 (ops.Astore 1) ∷ op 7 8 ops.Monitorenter
-    ∷ op 8 9 (ops.Aload 1) ∷ op 9 10 ops.Monitorexit ∷ op 10 11 (ops.Aload 0) ∷ op 11 12 ops.Monitorexit ∷ op 12 13 ops.Return ∷ op 13 14 ops.Pop ∷ op 14 17 (ops.Goto 10) ∷ [])
+    (op 0 1 (ops.Aload 0) ∷ op 1 2 ops.Monitorenter ∷ names 2 5 (ops.Getstatic 26) (targets.Field 2) ∷ op 5 6 (ops.Stack moves.Dup) ∷ op 6 7 (ops.Astore 1) ∷ op 7 8 ops.Monitorenter
+    ∷ op 8 9 (ops.Aload 1) ∷ op 9 10 ops.Monitorexit ∷ op 10 11 (ops.Aload 0) ∷ op 11 12 ops.Monitorexit ∷ op 12 13 ops.Return ∷ op 13 14 (ops.Stack moves.Pop) ∷ op 14 17 (ops.Goto 10) ∷ [])
     (to_handler 7 8 13 ∷ []))
     ≡ Accepted (shape [] (This ∷ Untagged ∷ []) [] ∷ shape (This ∷ []) (This ∷ Untagged ∷ []) [] ∷ shape [] (This ∷ Untagged ∷ []) (This ∷ []) ∷ shape (Untagged ∷ []) (This ∷ Untagged ∷ []) (This ∷ [])
     ∷ shape (At 5 ∷ At 5 ∷ []) (This ∷ Untagged ∷ []) (This ∷ []) ∷ shape (At 5 ∷ []) (This ∷ At 5 ∷ []) (This ∷ []) ∷ shape [] (This ∷ At 5 ∷ []) (At 5 ∷ This ∷ [])

@@ -4,6 +4,7 @@ use Rattle.jvm_types.specs.declared.{code.{Insn.Insn, Op.Op}, program.{FieldInfo
 use Rattle.jvm_types.proofs.SampleMethods.{insn}
 use Rattle.checked_program.specs.{LockTags.TagShape, TaggedCode.Tagged, Tagging.tag_plan, Visits.{PlanNode, plan_nodes, next_waiting, plan_visited}}
 use Rattle.jvm_types.specs.declared.code.Op.TheVariants as ops
+use Rattle.jvm_types.specs.declared.stack_move.StackMove.TheVariants as moves
 use Rattle.jvm_types.specs.declared.program.Kind.TheVariants as kinds
 use Rattle.jvm_types.specs.declared.program.Target.TheVariants as targets
 
@@ -87,7 +88,7 @@ set = method 32 (codes "set") (kinds.Int ∷ []) None 2 2
 
 abbrev pub sum : MethodInfo
 sum = method 0 (codes "sum") [] (Some kinds.Int) 2 3
-    (op 0 1 (ops.Aload 0) ∷ op 1 2 ops.Dup ∷ op 2 3 (ops.Astore 1) ∷ op 3 4 ops.Monitorenter
+    (op 0 1 (ops.Aload 0) ∷ op 1 2 (ops.Stack moves.Dup) ∷ op 2 3 (ops.Astore 1) ∷ op 3 4 ops.Monitorenter
     ∷ op 4 5 (ops.Aload 0) ∷ names 5 8 (ops.Getfield 22) (targets.Field 0) ∷ op 8 9 (ops.Aload 0) ∷ names 9 12 (ops.Getfield 24) (targets.Field 1)
     ∷ op 12 13 ops.Iadd ∷ op 13 14 (ops.Aload 1) ∷ op 14 15 ops.Monitorexit ∷ op 15 16 ops.Ireturn
     ∷ op 16 17 (ops.Astore 2) ∷ op 17 18 (ops.Aload 1) ∷ op 18 19 ops.Monitorexit ∷ op 19 20 (ops.Aload 2) ∷ op 20 21 ops.Athrow ∷ [])
@@ -102,7 +103,7 @@ pair_fields = private_int 0 ∷ private_int 1 ∷ static_object ∷ []
 -- what calls the two from outside
 abbrev pub init : MethodInfo
 init = method 8 (codes "init") [] None 2 0
-    (names 0 3 (ops.New 2) (targets.Class 17) ∷ op 3 4 ops.Dup ∷ names 4 7 (ops.Invokespecial 20) (targets.Method 0) ∷ names 7 10 (ops.Putstatic 26) (targets.Field 2)
+    (names 0 3 (ops.New 2) (targets.Class 17) ∷ op 3 4 (ops.Stack moves.Dup) ∷ names 4 7 (ops.Invokespecial 20) (targets.Method 0) ∷ names 7 10 (ops.Putstatic 26) (targets.Field 2)
     ∷ names 10 13 (ops.Getstatic 26) (targets.Field 2) ∷ op 13 14 (ops.Iconst (pos 4)) ∷ names 14 17 (ops.Invokevirtual 28) (targets.Method 1)
     ∷ names 17 20 (ops.Getstatic 36) targets.Out ∷ names 20 23 (ops.Getstatic 26) (targets.Field 2) ∷ names 23 26 (ops.Invokevirtual 30) (targets.Method 2)
     ∷ names 26 29 (ops.Invokevirtual 41) targets.Println ∷ op 29 30 ops.Return ∷ []) []
@@ -120,7 +121,7 @@ many_fields = private_int 0 ∷ private_int 1 ∷ static_object ∷ final_object
 
 -- a synchronized method that allocates
 abbrev pub makes : MethodInfo
-makes = method 32 (codes "makes") [] None 1 1 (names 0 3 (ops.New 2) (targets.Class 17) ∷ op 3 4 ops.Pop ∷ op 4 5 ops.Return ∷ []) []
+makes = method 32 (codes "makes") [] None 1 1 (names 0 3 (ops.New 2) (targets.Class 17) ∷ op 3 4 (ops.Stack moves.Pop) ∷ op 4 5 ops.Return ∷ []) []
 
 -- one that calls a synchronized method of its argument
 abbrev pub sets_other : MethodInfo
@@ -130,7 +131,7 @@ abbrev pub notifies : MethodInfo
 notifies = method 32 (codes "notifies") [] None 1 1 (op 0 1 (ops.Aload 0) ∷ names 1 4 (ops.Invokevirtual 50) targets.Notify ∷ op 4 5 ops.Return ∷ []) []
 
 abbrev pub reads_static : MethodInfo
-reads_static = method 32 (codes "reads_static") [] None 1 1 (names 0 3 (ops.Getstatic 26) (targets.Field 2) ∷ op 3 4 ops.Pop ∷ op 4 5 ops.Return ∷ []) []
+reads_static = method 32 (codes "reads_static") [] None 1 1 (names 0 3 (ops.Getstatic 26) (targets.Field 2) ∷ op 3 4 (ops.Stack moves.Pop) ∷ op 4 5 ops.Return ∷ []) []
 
 -- a method that prints, and a section that calls it
 abbrev pub prints : MethodInfo
@@ -146,7 +147,7 @@ again = method 0 (codes "again") [] None 1 1 (op 0 1 (ops.Aload 0) ∷ names 1 4
 -- a block on the value of a final field
 abbrev pub locks_field : MethodInfo
 locks_field = method 0 (codes "locks_field") [] None 2 2
-    (op 0 1 (ops.Aload 0) ∷ names 1 4 (ops.Getfield 54) (targets.Field 3) ∷ op 4 5 ops.Dup ∷ op 5 6 (ops.Astore 1) ∷ op 6 7 ops.Monitorenter ∷ op 7 8 (ops.Aload 1) ∷ op 8 9 ops.Monitorexit ∷ op 9 10 ops.Return ∷ []) []
+    (op 0 1 (ops.Aload 0) ∷ names 1 4 (ops.Getfield 54) (targets.Field 3) ∷ op 4 5 (ops.Stack moves.Dup) ∷ op 5 6 (ops.Astore 1) ∷ op 6 7 ops.Monitorenter ∷ op 7 8 (ops.Aload 1) ∷ op 8 9 ops.Monitorexit ∷ op 9 10 ops.Return ∷ []) []
 
 -- two calls of the block, on this
 abbrev pub twice : MethodInfo
@@ -155,7 +156,7 @@ twice = method 32 (codes "twice") [] (Some kinds.Int) 2 1
 
 -- and one of the block of another object
 abbrev pub sums_other : MethodInfo
-sums_other = method 32 (codes "sums_other") (kinds.Ref 17 ∷ []) None 1 2 (op 0 1 (ops.Aload 1) ∷ names 1 4 (ops.Invokevirtual 30) (targets.Method 2) ∷ op 4 5 ops.Pop ∷ op 5 6 ops.Return ∷ []) []
+sums_other = method 32 (codes "sums_other") (kinds.Ref 17 ∷ []) None 1 2 (op 0 1 (ops.Aload 1) ∷ names 1 4 (ops.Invokevirtual 30) (targets.Method 2) ∷ op 4 5 (ops.Stack moves.Pop) ∷ op 5 6 ops.Return ∷ []) []
 
 abbrev pub many : Program
 many = program many_fields (constructor ∷ set ∷ sum ∷ makes ∷ sets_other ∷ notifies ∷ reads_static ∷ prints ∷ calls_on_this (codes "calls_printer") 7

@@ -31,13 +31,7 @@ is_field_of c (Some field) = field.class == c
 -- an instruction of an `<init>` of the class may take `this` at a place counted from the top of the
 -- stack
 abbrev pub may_take : Program → ℕ → Op → Target → ℕ → Bool
-may_take p c ops.Dup target k = true
-may_take p c ops.DupX1 target k = true
-may_take p c ops.DupX2 target k = true
-may_take p c ops.Dup2 target k = true
-may_take p c ops.Swap target k = true
-may_take p c ops.Pop target k = true
-may_take p c ops.Pop2 target k = true
+may_take p c (ops.Stack move) target k = true
 may_take p c (ops.Getfield i) (targets.Field fi) k =
     (k == 0) && is_field_of c (slice_get p.fields fi)
 may_take p c (ops.Putfield i) (targets.Field fi) k =

@@ -58,13 +58,7 @@ abbrev pub may_take_array : Op → (k : ℕ) → Bool
 may_take_array ops.Iaload k = k == 1
 may_take_array ops.Iastore k = k == 2
 may_take_array ops.Arraylength k = true
-may_take_array ops.Dup k = true
-may_take_array ops.DupX1 k = true
-may_take_array ops.DupX2 k = true
-may_take_array ops.Dup2 k = true
-may_take_array ops.Swap k = true
-may_take_array ops.Pop k = true
-may_take_array ops.Pop2 k = true
+may_take_array (ops.Stack move) k = true
 may_take_array op k = false
 
 -- an instruction takes what its row pops

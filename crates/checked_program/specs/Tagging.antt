@@ -10,6 +10,7 @@ use Rattle.jvm_types.specs.Verifying.{edges, covering, is_return}
 use Rattle.jvm_types.specs.declared.code.Insn.{Insn}
 use Rattle.jvm_types.specs.declared.code.Op.{Op}
 use Rattle.jvm_types.specs.declared.code.Op.TheVariants as ops
+use Rattle.jvm_types.specs.declared.stack_move.StackMove.TheVariants as moves
 use Rattle.jvm_types.specs.declared.program.Row.{Row}
 use Rattle.jvm_types.specs.declared.program.Target.{Target}
 use Rattle.jvm_types.specs.declared.program.MethodInfo.{MethodInfo}
@@ -37,7 +38,7 @@ moved_tags r f =
 
 -- with the stack of the frame beside it; only a `dup` of an untagged value makes a tag
 abbrev pub tags_by_op : ℕ → OpRow → Op → List Tag → TagShape → TagShape
-tags_by_op pc r ops.Dup (Untagged ∷ ts) f =
+tags_by_op pc r (ops.Stack moves.Dup) (Untagged ∷ ts) f =
     record { stack = At pc ∷ At pc ∷ without pc ts; locals = without pc f.locals; held = f.held }
 tags_by_op pc r ops.Monitorenter (t ∷ ts) f = record (moved_tags r f) { held = t ∷ f.held }
 tags_by_op pc r ops.Monitorexit ts f = record (moved_tags r f) { held = drop 1 f.held }

@@ -1,10 +1,10 @@
 -- The forms that rows have, and the row that each stands for.
 use Rattle.std.specs.Prelude.{ℕ, List, [], ◌∷◌, Some}
-use Rattle.jvm_types.specs.CodeTable.{an_int, any_values, constant_row, load_row, stack_row}
+use Rattle.jvm_types.specs.CodeTable.{an_int, constant_row, load_row, move_row, stack_row}
 use Rattle.jvm_types.specs.CodeTable.{store_row}
 use Rattle.jvm_types.specs.declared.code.Op.{Op}
 use Rattle.jvm_types.specs.declared.op_row.OpRow.{OpRow}
-use Rattle.jvm_types.specs.declared.op_row.Given.TheVariants.{Fresh, Taken}
+use Rattle.jvm_types.specs.declared.op_row.Given.TheVariants.{Fresh}
 use Rattle.jvm_types.specs.declared.op_row.Want.{Want}
 use Rattle.jvm_types.specs.declared.op_row.Want.TheVariants.{AnInt}
 use Rattle.jvm_types.specs.declared.program.Program.{Program}
@@ -28,11 +28,5 @@ formed_row (forms.Loads i want) p pc target op = load_row i want
 formed_row (forms.Stores i want) p pc target op = store_row i want
 formed_row (forms.Adds i) p pc target op =
     record { takes = []; gives = []; reads = Some (i, AnInt); writes = Some (i, an_int) }
-formed_row forms.Dup p pc target op = stack_row (any_values 1) (Taken 0 ∷ Taken 0 ∷ [])
-formed_row forms.DupX1 p pc target op = stack_row (any_values 2) (Taken 0 ∷ Taken 1 ∷ Taken 0 ∷ [])
-formed_row forms.DupX2 p pc target op =
-    stack_row (any_values 3) (Taken 0 ∷ Taken 1 ∷ Taken 2 ∷ Taken 0 ∷ [])
-formed_row forms.Dup2 p pc target op =
-    stack_row (any_values 2) (Taken 0 ∷ Taken 1 ∷ Taken 0 ∷ Taken 1 ∷ [])
-formed_row forms.Swap p pc target op = stack_row (any_values 2) (Taken 1 ∷ Taken 0 ∷ [])
+formed_row (forms.Moves move) p pc target op = move_row move
 formed_row forms.Named p pc target op = constant_row p pc target op

@@ -228,6 +228,7 @@ fn method_takes(p: &Program, pc: u32, number: u32, op: &Op) -> usize
         return 0;
     };
     match op {
+        // as a slice, whose length is known to leave room for one more
         Op::Invokevirtual(_) | Op::Invokespecial(_) => called.args.as_slice().len() + 1,
         Op::Invokestatic(_) => called.args.len(),
         _ => 0,

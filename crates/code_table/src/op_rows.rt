@@ -8,12 +8,10 @@ ghost use Rattle.jvm_types.specs.declared.program.Target.{Target};
 ghost use Rattle.code_table.specs.RowForms.{formed_row};
 
 use crate::constant_rows::{constant_row, constant_takes, returned};
-use crate::row_forms::{AN_INT, RowForm, Takes, load_row, made_row, stack_row, store_row};
+use crate::row_forms::{AN_INT, RowForm, Takes, load_row, stack_row, store_row, taking_row};
 use jvm_types::class_numbers::{INT_ARRAY_CLASS, OBJECT_CLASS, THROWABLE_CLASS};
 use jvm_types::{Given, MethodInfo, Op, OpRow, Program, Rows, Target, VType, Want};
 use std::alloc::{AllocError, Global};
-
-const ANY: Want = Want::AnyValue;
 
 const INT: Want = Want::AnInt;
 
@@ -22,12 +20,6 @@ const AN_OBJECT: Want = Want::AnObject(OBJECT_CLASS);
 const AN_ARRAY: Want = Want::AnObject(INT_ARRAY_CLASS);
 
 const A_THROWABLE: Want = Want::AnObject(THROWABLE_CLASS);
-
-const TOP: Given = Given::Taken(0);
-
-const SECOND: Given = Given::Taken(1);
-
-const THIRD: Given = Given::Taken(2);
 
 /// The form of the row of an instruction of a method.
 #[inline(always)]
@@ -46,13 +38,7 @@ pub fn form(m: &MethodInfo, op: &Op) -> RowForm
         Op::Iinc(i, _) => RowForm::Adds(*i),
         Op::Iaload => RowForm::Makes(Takes::Two(INT, AN_ARRAY), VType::Int),
         Op::Iastore => RowForm::Leaves(Takes::Three(INT, INT, AN_ARRAY)),
-        Op::Pop => RowForm::Leaves(Takes::One(ANY)),
-        Op::Pop2 => RowForm::Leaves(Takes::Two(ANY, ANY)),
-        Op::Dup => RowForm::Dup,
-        Op::DupX1 => RowForm::DupX1,
-        Op::DupX2 => RowForm::DupX2,
-        Op::Dup2 => RowForm::Dup2,
-        Op::Swap => RowForm::Swap,
+        Op::Stack(stack_move) => RowForm::Moves(*stack_move),
         Op::Ineg | Op::I2b | Op::I2c | Op::I2s => RowForm::Makes(Takes::One(INT), VType::Int),
         Op::Iadd
         | Op::Isub
@@ -102,8 +88,8 @@ fn formed_row(
     ensures { IfOk result (λ r. r ≡ formed_row form p.now pc target op.now) }
 {
     match form {
-        RowForm::Leaves(takes) => made_row(alloc, takes, &[]),
-        RowForm::Makes(takes, made) => made_row(alloc, takes, &[Given::Fresh(made)]),
+        RowForm::Leaves(takes) => taking_row(alloc, takes, &[]),
+        RowForm::Makes(takes, made) => taking_row(alloc, takes, &[Given::Fresh(made)]),
         RowForm::Loads(i, want) => load_row(alloc, i, want),
         RowForm::Stores(i, want) => store_row(alloc, i, want),
         RowForm::Adds(i) => Ok(OpRow {
@@ -112,11 +98,7 @@ fn formed_row(
             reads: Some((i, INT)),
             writes: Some((i, AN_INT)),
         }),
-        RowForm::Dup => stack_row(alloc, &[ANY], &[TOP, TOP]),
-        RowForm::DupX1 => stack_row(alloc, &[ANY, ANY], &[TOP, SECOND, TOP]),
-        RowForm::DupX2 => stack_row(alloc, &[ANY, ANY, ANY], &[TOP, SECOND, THIRD, TOP]),
-        RowForm::Dup2 => stack_row(alloc, &[ANY, ANY], &[TOP, SECOND, TOP, SECOND]),
-        RowForm::Swap => stack_row(alloc, &[ANY, ANY], &[SECOND, TOP]),
+        RowForm::Moves(stack_move) => stack_row(alloc, stack_move.takes(), stack_move.gives()),
         RowForm::Named => constant_row(alloc, p, pc, target, op),
     }
 }
@@ -143,9 +125,8 @@ fn takes_by(form: RowForm, p: &Program, pc: u32, target: Target, op: &Op) -> usi
     match form {
         RowForm::Leaves(takes) | RowForm::Makes(takes, _) => takes.count() as usize,
         RowForm::Loads(_, _) | RowForm::Adds(_) => 0,
-        RowForm::Stores(_, _) | RowForm::Dup => 1,
-        RowForm::DupX1 | RowForm::Dup2 | RowForm::Swap => 2,
-        RowForm::DupX2 => 3,
+        RowForm::Stores(_, _) => 1,
+        RowForm::Moves(stack_move) => stack_move.count(),
         RowForm::Named => constant_takes(p, pc, target, op),
     }
 }

@@ -4,7 +4,7 @@ ghost use Rattle.std.specs.Prelude.{◌≡◌, length, IfOk};
 ghost use Rattle.jvm_types.specs.CodeTable.{no_row, stack_row, load_row, store_row};
 ghost use Rattle.code_table.specs.RowForms.{wants};
 
-use jvm_types::{Given, OpRow, Rows, VType, Want};
+use jvm_types::{Given, OpRow, Rows, StackMove, VType, Want};
 use std::alloc::{AllocError, Global};
 
 /// What is taken from the stack, with the top first.
@@ -31,7 +31,7 @@ impl Takes {
     }
 
     /// What is asked of these values.
-    pub fn wants(self, alloc: Global) -> Result<Rows<Want>, AllocError>
+    pub(crate) fn wants(self, alloc: Global) -> Result<Rows<Want>, AllocError>
         ensures { IfOk result (λ asked. asked ≡ wants self) }
     {
         match self {
@@ -56,12 +56,8 @@ pub enum RowForm {
     Stores(u16, Want),
     /// A local gets an int of the instruction's own.
     Adds(u16),
-    /// The values on top again, in another order.
-    Dup,
-    DupX1,
-    DupX2,
-    Dup2,
-    Swap,
+    /// Values of the stack are moved.
+    Moves(StackMove),
     /// By what a constant names.
     Named,
 }
@@ -94,7 +90,7 @@ pub fn stack_row(alloc: Global, takes: &[Want], gives: &[Given]) -> Result<OpRow
 }
 
 /// The row that takes these values, and reads and writes no local.
-pub fn made_row(alloc: Global, takes: Takes, gives: &[Given]) -> Result<OpRow, AllocError>
+pub fn taking_row(alloc: Global, takes: Takes, gives: &[Given]) -> Result<OpRow, AllocError>
     ensures { IfOk result (λ r. r ≡ stack_row (wants takes) gives.now) }
 {
     Ok(OpRow {

@@ -8,6 +8,7 @@ use Rattle.checked_program.specs.{FrozenPlaces.{KeepThis, KeepsThis}, LockTags.{
 use Rattle.checked_program.{specs.declared.tag.Tag.{Tag, TheVariants.{Untagged, This, At}}, proofs.FrozenChecks.{that_is_this, implied}}
 use Rattle.frozen_classes.specs.KeptThis.{all_before, this_at, given_this, some_given_this, stack_this_after, local_this_after, with_number, numbers_where, places_after, places_caught, keeps_places}
 use Rattle.jvm_types.specs.declared.code.Op.TheVariants as ops
+use Rattle.jvm_types.specs.declared.stack_move.StackMove.TheVariants as moves
 
 -- ---- tests
 
@@ -97,17 +98,17 @@ this_without pc [] k = refl
 this_without pc (t ∷ ts) zero = untag_one pc t
 this_without pc (t ∷ ts) (suc k) = this_without pc ts k
 
-dup_stack : (p : Program) (m : MethodInfo) (pc : ℕ) (target : Target) (ts locals : List Tag) (k : ℕ) → this_at (At pc ∷ At pc ∷ without pc ts) k ≡ this_at (stack_after Untagged (λ type. Untagged) (row p m pc target ops.Dup) (Untagged ∷ ts) locals) k
+dup_stack : (p : Program) (m : MethodInfo) (pc : ℕ) (target : Target) (ts locals : List Tag) (k : ℕ) → this_at (At pc ∷ At pc ∷ without pc ts) k ≡ this_at (stack_after Untagged (λ type. Untagged) (row p m pc target (ops.Stack moves.Dup)) (Untagged ∷ ts) locals) k
 dup_stack p m pc target ts locals (suc (suc k)) = this_without pc ts k
 dup_stack p m pc target ts locals k = refl
 
 same_stack : (p : Program) (m : MethodInfo) (target : Target) (pc : ℕ) (op : Op) (ts : List Tag) (f : TagShape) → f.stack ≡ ts → (k : ℕ) → this_at (tags_by_op pc (row p m pc target op) op ts f).stack k ≡ this_at (moved_tags (row p m pc target op) f).stack k
-same_stack p m target pc ops.Dup (Untagged ∷ ts) f e k = subst (λ (l : List Tag). this_at (At pc ∷ At pc ∷ without pc ts) k ≡ this_at (stack_after Untagged (λ type. Untagged) (row p m pc target ops.Dup) l f.locals) k) (sym e) (dup_stack p m pc target ts f.locals k)
+same_stack p m target pc (ops.Stack moves.Dup) (Untagged ∷ ts) f e k = subst (λ (l : List Tag). this_at (At pc ∷ At pc ∷ without pc ts) k ≡ this_at (stack_after Untagged (λ type. Untagged) (row p m pc target (ops.Stack moves.Dup)) l f.locals) k) (sym e) (dup_stack p m pc target ts f.locals k)
 same_stack p m target pc ops.Monitorenter (t ∷ ts) f e k = refl
 same_stack p m target pc op ts f e k = refl
 
 same_locals : (p : Program) (m : MethodInfo) (target : Target) (pc : ℕ) (op : Op) (ts : List Tag) (f : TagShape) (k : ℕ) → this_at (tags_by_op pc (row p m pc target op) op ts f).locals k ≡ this_at (moved_tags (row p m pc target op) f).locals k
-same_locals p m target pc ops.Dup (Untagged ∷ ts) f k = this_without pc f.locals k
+same_locals p m target pc (ops.Stack moves.Dup) (Untagged ∷ ts) f k = this_without pc f.locals k
 same_locals p m target pc ops.Monitorenter (t ∷ ts) f k = refl
 same_locals p m target pc op ts f k = refl
 

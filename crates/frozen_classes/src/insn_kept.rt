@@ -40,13 +40,7 @@ fn may_take(p: &Program, class: u16, op: &Op, target: Target, k: usize) -> bool
     ensures { result ≡ may_take p.now class op.now target k }
 {
     match op {
-        Op::Dup => true,
-        Op::DupX1 => true,
-        Op::DupX2 => true,
-        Op::Dup2 => true,
-        Op::Swap => true,
-        Op::Pop => true,
-        Op::Pop2 => true,
+        Op::Stack(_) => true,
         Op::Getfield(_) => match target {
             Target::Field(f) => k == 0 && is_field_of(p, class, f),
             _ => false,

@@ -333,13 +333,7 @@ fn may_take_array(op: &Op, place: usize) -> bool
         Op::Iaload => place == 1,
         Op::Iastore => place == 2,
         Op::Arraylength => true,
-        Op::Dup => true,
-        Op::DupX1 => true,
-        Op::DupX2 => true,
-        Op::Dup2 => true,
-        Op::Swap => true,
-        Op::Pop => true,
-        Op::Pop2 => true,
+        Op::Stack(_) => true,
         _ => false,
     }
 }

@@ -80,18 +80,13 @@ pub fn effect(
             [v, i, a, ..] => unless_null(*a, Effect::Indexes(*a, *i, Some(*v))),
             _ => Effect::Stuck,
         },
-        Op::Pop | Op::Dup => match stack {
-            [_, ..] => Effect::Goes(next, 0),
-            [] => Effect::Stuck,
-        },
-        Op::Pop2 | Op::DupX1 | Op::Dup2 | Op::Swap => match stack {
-            [_, _, ..] => Effect::Goes(next, 0),
-            _ => Effect::Stuck,
-        },
-        Op::DupX2 => match stack {
-            [_, _, _, ..] => Effect::Goes(next, 0),
-            _ => Effect::Stuck,
-        },
+        Op::Stack(stack_move) => {
+            if stack.len() < stack_move.count() {
+                Effect::Stuck
+            } else {
+                Effect::Goes(next, 0)
+            }
+        }
         Op::Iadd => match stack {
             [b, a, ..] => Effect::Goes(next, add(*a, *b)),
             _ => Effect::Stuck,

@@ -1,7 +1,9 @@
 //! The top frame after an instruction, by the instruction's row in the table (JVMS 6.5).
 
 ghost use Rattle.std.specs.Prelude.{◌≡◌, ◌<◌, ◌≤◌, ◌+◌, ◌-◌, ◌∷◌, ◌++◌, length, drop, map};
-ghost use Rattle.jvm_types.specs.CodeTable.{row, constant_row, result_of, value_of};
+ghost use Rattle.std.specs.Prelude.{slice_index_or};
+ghost use Rattle.jvm_types.specs.CodeTable.{row, constant_row, move_gives, move_takes};
+ghost use Rattle.jvm_types.specs.CodeTable.{result_of, value_of};
 ghost use Rattle.jvm_types.specs.declared.program.Target.TheVariants as targets;
 ghost use Rattle.code_table.specs.RowForms.{formed_row};
 ghost use Rattle.frames.specs.FrameLists.{top, max_stack};
@@ -10,7 +12,7 @@ ghost use Rattle.instr_steps.specs.Going.{HasRoom, HasTaken, frame_went, stack_w
 
 use code_table::{RowForm, form};
 use frames::ThreadState;
-use jvm_types::{MethodInfo, Op, Program, Target};
+use jvm_types::{MethodInfo, Op, Program, StackMove, Target};
 
 /// The top frame goes on at a pc, without so many values of its stack.
 #[inline(always)]
@@ -35,6 +37,59 @@ fn replace(s: &mut ThreadState, count: u16, made: u64, to: u32)
     s.drop_values(count);
     s.push_value(made);
     s.set_pc(to);
+}
+
+/// The top frame goes on at a pc, with values of its stack moved.
+#[inline(always)]
+fn move_values(s: &mut ThreadState, stack_move: StackMove, to: u32)
+    requires frame { 0 < length s.old.frames }
+    requires values { move_takes stack_move ≤ length (top s.old.frames).stack }
+    requires room { length (top s.old.frames).stack - move_takes stack_move
+        + length (move_gives stack_move)
+        ≤ max_stack s.old.program.program (top s.old.frames).method }
+    ensures { s.new ≡ stack_went to (map
+        (λ place. slice_index_or (top s.old.frames).stack place 0) (move_gives stack_move)
+        ++ drop (move_takes stack_move) (top s.old.frames).stack) s.old }
+{
+    match stack_move {
+        StackMove::Pop => take(s, 1, to),
+        StackMove::Pop2 => take(s, 2, to),
+        StackMove::Dup => {
+            let first = s.value(0);
+            replace(s, 1, first, to);
+            s.push_value(first);
+        }
+        StackMove::DupX1 => {
+            let first = s.value(0);
+            let second = s.value(1);
+            replace(s, 2, first, to);
+            s.push_value(second);
+            s.push_value(first);
+        }
+        StackMove::DupX2 => {
+            let first = s.value(0);
+            let second = s.value(1);
+            let third = s.value(2);
+            replace(s, 3, first, to);
+            s.push_value(third);
+            s.push_value(second);
+            s.push_value(first);
+        }
+        StackMove::Dup2 => {
+            let first = s.value(0);
+            let second = s.value(1);
+            replace(s, 2, second, to);
+            s.push_value(first);
+            s.push_value(second);
+            s.push_value(first);
+        }
+        StackMove::Swap => {
+            let upper = s.value(0);
+            let lower = s.value(1);
+            replace(s, 2, upper, to);
+            s.push_value(lower);
+        }
+    }
 }
 
 /// Behind an instruction that names a field.
@@ -198,46 +253,13 @@ fn went_by(
             s.set_local(i, made);
             s.set_pc(to);
         }
-        RowForm::Dup => {
-            let first = s.value(0);
-            replace(s, 1, first, to);
-            s.push_value(first);
-        }
-        RowForm::DupX1 => {
-            let first = s.value(0);
-            let second = s.value(1);
-            replace(s, 2, first, to);
-            s.push_value(second);
-            s.push_value(first);
-        }
-        RowForm::DupX2 => {
-            let first = s.value(0);
-            let second = s.value(1);
-            let third = s.value(2);
-            replace(s, 3, first, to);
-            s.push_value(third);
-            s.push_value(second);
-            s.push_value(first);
-        }
-        RowForm::Dup2 => {
-            let first = s.value(0);
-            let second = s.value(1);
-            replace(s, 2, second, to);
-            s.push_value(first);
-            s.push_value(second);
-            s.push_value(first);
-        }
-        RowForm::Swap => {
-            let upper = s.value(0);
-            let lower = s.value(1);
-            replace(s, 2, upper, to);
-            s.push_value(lower);
-        }
+        RowForm::Moves(stack_move) => move_values(s, stack_move, to),
         RowForm::Named => went_with_constant(s, p, pc, target, op, to, made),
     }
 }
 
-/// The same by the instruction and its method.
+/// The top frame goes on at a pc behind an instruction of its method, which makes this value, where
+/// it makes one.
 #[inline(always)]
 pub fn went(
     s: &mut ThreadState,

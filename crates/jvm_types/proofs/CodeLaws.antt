@@ -1,11 +1,11 @@
 -- Code breaks no rule, and spells one list of instructions.
 use Rattle.std.proofs.Common.{◌≡◌, ℕ, ◌+◌, ◌<◌, ◌≤◌, pos, Bool, true, false, List, [], ◌∷◌, ◌++◌, length, map, Option, Some, None, Ok, refl, ap, inl, inr, ◌∙◌, arith, ◌⊎◌, ◌&&◌, ◌||◌, ◌==◌, nat_lt, if◌then◌else◌, IsSomeAnd}
 use Rattle.std.{specs.List.AllByRecursion, proofs.lemmas.Bool.Decides.nat_tests}
-use Rattle.lists.proofs.TestLaws.{same_number, second_true}
+use Rattle.lists.proofs.{ListLaws.all_mapped, TestLaws.{same_number, second_true}}
 use Rattle.jvm_types.specs.CodeFault.{Outline, known_extent, outlines, all_at, branch_fault, row_fits, handler_fault, CodeIsFaultless}
 use Rattle.jvm_types.specs.CodeGrammar.{SpellsOperands, SpellsOp, SpellsInsns, is_start, IsStart, RowFits}
-use Rattle.jvm_types.specs.{CodeTable.{Form, constants, loads, stores, stack_moves, arithmetic, control, references, form_of, branches_to, FormRows, first_row}, Numbers.has_number}
-use Rattle.jvm_types.{specs.declared.{class_file.Handler.Handler, code.{Insn.Insn, Op.Op}}, proofs.CodeReading.{not_negative, FormLaw, extent_with, extent_back}}
+use Rattle.jvm_types.specs.{CodeTable.{Form, Plain, all_moves, move_opcode, constants, loads, stores, stack_moves, arithmetic, control, references, form_of, branches_to, FormRows, first_row}, Numbers.has_number}
+use Rattle.jvm_types.{specs.declared.{class_file.Handler.Handler, code.{Insn.Insn, Op.{Op, TheVariants.Stack}}}, proofs.CodeReading.{not_negative, FormLaw, extent_with, extent_back}}
 
 -- ---- the forms of the table
 
@@ -31,7 +31,7 @@ stores_hold : (b : ℕ) → AllByRecursion (λ r. FormLaw r.1) (stores b)
 stores_hold b = (λ n. refl, (λ n. refl, (refl, (refl, (refl, tt)))))
 
 stack_moves_hold : (b : ℕ) → AllByRecursion (λ r. FormLaw r.1) (stack_moves b)
-stack_moves_hold b = (refl, (refl, (refl, (refl, (refl, (refl, (refl, tt)))))))
+stack_moves_hold b = all_mapped (λ (r : Bool × Form). FormLaw r.1) (λ move. (b == move_opcode move, Plain (Stack move))) (λ move. refl) all_moves
 
 arithmetic_hold : (b : ℕ) → AllByRecursion (λ r. FormLaw r.1) (arithmetic b)
 arithmetic_hold b = (refl, (refl, (refl, (refl, (refl, (refl, (refl, (refl, (refl, (refl, (refl, (refl, (λ i n. refl, (refl, (refl, (refl, tt))))))))))))))))

@@ -1,7 +1,9 @@
 -- What the definitions of code say of small codes, by computing.
 use Rattle.std.proofs.Common.{◌≡◌, [], ◌∷◌, ◌++◌, ◌==◌, Option, Some, None, refl, ℕ, pos, List, filter, is_some, not, zero, suc}
-use Rattle.jvm_types.specs.CodeTable.{form_of, first_row, opcode, Form, FormRows, Plain, Byte, Short, SignedByte, SignedShort, Branch, WideBranch, LocalAndStep, IntArray, Table, Lookup, constants, loads, stores, stack_moves, arithmetic, control, references}
-use Rattle.jvm_types.specs.{CodeFault.code_fault, declared.code.Op.TheVariants.{Tableswitch, Lookupswitch}, declared.refusal.KRule.TheVariants.{K1, K2, K3, K4, K5, K6}}
+use Rattle.jvm_types.specs.CodeTable.{form_of, first_row, move_opcode, opcode, Form, FormRows, Plain, Byte, Short, SignedByte, SignedShort, Branch, WideBranch, LocalAndStep, IntArray, Table, Lookup, constants, loads, stores, stack_moves, arithmetic, control, references}
+use Rattle.jvm_types.specs.{CodeFault.code_fault, declared.code.Op.TheVariants.{Stack, Tableswitch, Lookupswitch}, declared.refusal.KRule.TheVariants.{K1, K2, K3, K4, K5, K6}}
+use Rattle.jvm_types.specs.declared.stack_move.StackMove.{StackMove}
+use Rattle.jvm_types.specs.declared.stack_move.StackMove.TheVariants as moves
 
 no_bytes : code_fault [] [] ≡ Some (K5, 0)
 no_bytes = refl
@@ -80,6 +82,11 @@ groups b =
 -- each row is found, whatever group it stands in
 in_groups : known ≡ filter (λ b. is_some (first_row (groups b))) (below 256 [])
 in_groups = refl
+
+-- and each move of the stack
+each_move : (move : StackMove) → first_row (stack_moves (move_opcode move)) ≡ Some (Plain (Stack move))
+each_move moves.Pop = refl
+each_move move = refl
 
 -- the opcode of what a form makes
 abbrev of_form : Option Form → ℕ

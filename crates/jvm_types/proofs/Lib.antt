@@ -21,6 +21,7 @@ pub mod PoolLaws
 mod TypingTries
 pub mod CodeReading
 pub mod CodeLaws
+pub mod MoveLaws
 pub mod CodeOnce
 pub mod AttrLaws
 pub mod ClassReads

@@ -4,6 +4,7 @@ use Rattle.jvm_types.specs.{ClassTree.{is_subclass, common_ancestor}, Types.{Typ
 use Rattle.jvm_types.specs.declared.{program.{FieldInfo.FieldInfo, MethodInfo.MethodInfo, Program.Program, Row.Row, Target.Target}, refusal.VRule.{VRule, TheVariants.{V1, V2, V3, V4, V5, V6, V7, V8}}}
 use Rattle.jvm_types.{specs.declared.typing.VType.{VType, TheVariants.{Int, Null, Ref, This, New, Top}}, proofs.SampleMethods.{insn, method}}
 use Rattle.jvm_types.specs.declared.code.Op.TheVariants as ops
+use Rattle.jvm_types.specs.declared.stack_move.StackMove.TheVariants as moves
 use Rattle.jvm_types.specs.declared.code.Cmp.TheVariants as cmps
 use Rattle.jvm_types.specs.declared.program.Kind.TheVariants as kinds
 use Rattle.jvm_types.specs.declared.program.Target.TheVariants as targets
@@ -54,15 +55,15 @@ small code named = method 8 (codes "m") 1 0 code named []
 
 -- ---- one refusal by each rule
 
-too_few : verified program (small (insn 0 1 ops.Pop ∷ insn 1 2 ops.Return ∷ []) (nothing ∷ nothing ∷ [])) ≡ Refused V1 0
+too_few : verified program (small (insn 0 1 (ops.Stack moves.Pop) ∷ insn 1 2 ops.Return ∷ []) (nothing ∷ nothing ∷ [])) ≡ Refused V1 0
 unfolding is_subclass common_ancestor
 too_few = refl
 
-too_many : verified program (small (insn 0 1 (ops.Iconst (pos 0)) ∷ insn 1 2 (ops.Iconst (pos 0)) ∷ insn 2 3 ops.Pop ∷ insn 3 4 ops.Pop ∷ insn 4 5 ops.Return ∷ []) (nothing ∷ nothing ∷ nothing ∷ nothing ∷ nothing ∷ [])) ≡ Refused V2 1
+too_many : verified program (small (insn 0 1 (ops.Iconst (pos 0)) ∷ insn 1 2 (ops.Iconst (pos 0)) ∷ insn 2 3 (ops.Stack moves.Pop) ∷ insn 3 4 (ops.Stack moves.Pop) ∷ insn 4 5 ops.Return ∷ []) (nothing ∷ nothing ∷ nothing ∷ nothing ∷ nothing ∷ [])) ≡ Refused V2 1
 unfolding is_subclass common_ancestor
 too_many = refl
 
-no_such_local : verified program (small (insn 0 1 (ops.Iload 0) ∷ insn 1 2 ops.Pop ∷ insn 2 3 ops.Return ∷ []) (nothing ∷ nothing ∷ nothing ∷ [])) ≡ Refused V3 0
+no_such_local : verified program (small (insn 0 1 (ops.Iload 0) ∷ insn 1 2 (ops.Stack moves.Pop) ∷ insn 2 3 ops.Return ∷ []) (nothing ∷ nothing ∷ nothing ∷ [])) ≡ Refused V3 0
 unfolding is_subclass common_ancestor
 no_such_local = refl
 
@@ -72,11 +73,11 @@ unfolding is_subclass common_ancestor
 no_place_for_this = refl
 
 -- the stack rules of pc 0 go before
-no_place_and_too_few : verified program (method 0 (codes "m") 1 0 (insn 0 1 ops.Pop ∷ []) (nothing ∷ []) []) ≡ Refused V1 0
+no_place_and_too_few : verified program (method 0 (codes "m") 1 0 (insn 0 1 (ops.Stack moves.Pop) ∷ []) (nothing ∷ []) []) ≡ Refused V1 0
 unfolding is_subclass common_ancestor
 no_place_and_too_few = refl
 
-no_int : verified program (small (insn 0 1 ops.AconstNull ∷ insn 1 2 ops.Ineg ∷ insn 2 3 ops.Pop ∷ insn 3 4 ops.Return ∷ []) (nothing ∷ nothing ∷ nothing ∷ nothing ∷ [])) ≡ Refused V4 1
+no_int : verified program (small (insn 0 1 ops.AconstNull ∷ insn 1 2 ops.Ineg ∷ insn 2 3 (ops.Stack moves.Pop) ∷ insn 3 4 ops.Return ∷ []) (nothing ∷ nothing ∷ nothing ∷ nothing ∷ [])) ≡ Refused V4 1
 unfolding is_subclass common_ancestor
 no_int = refl
 
@@ -165,7 +166,7 @@ frame stack locals = Some (record { stack = stack; locals = locals; ready = true
 -- a block on `this` in the shape of javac: both rows lead to 16, where local 2 is of no known type
 abbrev block : MethodInfo
 block = record (method 0 (codes "sum") 2 3
-    (insn 0 1 (ops.Aload 0) ∷ insn 1 2 ops.Dup ∷ insn 2 3 (ops.Astore 1) ∷ insn 3 4 ops.Monitorenter ∷ insn 4 5 (ops.Aload 0) ∷ insn 5 8 (ops.Getfield 22)
+    (insn 0 1 (ops.Aload 0) ∷ insn 1 2 (ops.Stack moves.Dup) ∷ insn 2 3 (ops.Astore 1) ∷ insn 3 4 ops.Monitorenter ∷ insn 4 5 (ops.Aload 0) ∷ insn 5 8 (ops.Getfield 22)
     ∷ insn 8 9 (ops.Aload 0) ∷ insn 9 12 (ops.Getfield 24) ∷ insn 12 13 ops.Iadd ∷ insn 13 14 (ops.Aload 1) ∷ insn 14 15 ops.Monitorexit ∷ insn 15 16 ops.Ireturn
     ∷ insn 16 17 (ops.Astore 2) ∷ insn 17 18 (ops.Aload 1) ∷ insn 18 19 ops.Monitorexit ∷ insn 19 20 (ops.Aload 2) ∷ insn 20 21 ops.Athrow ∷ [])
     (nothing ∷ nothing ∷ nothing ∷ nothing ∷ nothing ∷ targets.Field 0 ∷ nothing ∷ targets.Field 1 ∷ nothing ∷ nothing ∷ nothing ∷ nothing
@@ -189,14 +190,14 @@ unfolding is_subclass common_ancestor
 prints_a_sum = refl
 
 -- `new`, `dup`, `<init>`: both copies are initialised at once
-new_object : verified program (method 8 (codes "init") 2 0 (insn 0 3 (ops.New 2) ∷ insn 3 4 ops.Dup ∷ insn 4 7 (ops.Invokespecial 20) ∷ insn 7 10 (ops.Putstatic 26) ∷ insn 10 11 ops.Return ∷ [])
+new_object : verified program (method 8 (codes "init") 2 0 (insn 0 3 (ops.New 2) ∷ insn 3 4 (ops.Stack moves.Dup) ∷ insn 4 7 (ops.Invokespecial 20) ∷ insn 7 10 (ops.Putstatic 26) ∷ insn 10 11 ops.Return ∷ [])
     (targets.Class 17 ∷ nothing ∷ targets.Method 0 ∷ targets.Field 2 ∷ nothing ∷ []) [])
     ≡ Typed (frame [] [] ∷ frame (New 0 ∷ []) [] ∷ frame (New 0 ∷ New 0 ∷ []) [] ∷ frame (Ref 17 ∷ []) [] ∷ frame [] [] ∷ [])
 unfolding is_subclass common_ancestor
 new_object = refl
 
 -- two catch types with one handler: what is caught there is some Throwable
-two_catch_types : verified program (method 8 (codes "m") 1 0 (insn 0 1 ops.Nop ∷ insn 1 2 ops.Return ∷ insn 2 3 ops.Pop ∷ insn 3 4 ops.Return ∷ insn 4 5 ops.Nop ∷ []) (nothing ∷ nothing ∷ nothing ∷ nothing ∷ nothing ∷ [])
+two_catch_types : verified program (method 8 (codes "m") 1 0 (insn 0 1 ops.Nop ∷ insn 1 2 ops.Return ∷ insn 2 3 (ops.Stack moves.Pop) ∷ insn 3 4 ops.Return ∷ insn 4 5 ops.Nop ∷ []) (nothing ∷ nothing ∷ nothing ∷ nothing ∷ nothing ∷ [])
     (record { start = 0; end = 1; handler = 2; catch_class = 9 } ∷ record { start = 0; end = 2; handler = 2; catch_class = 14 } ∷ []))
     ≡ Typed (frame [] [] ∷ frame [] [] ∷ frame (Ref 4 ∷ []) [] ∷ frame [] [] ∷ None ∷ [])
 unfolding is_subclass common_ancestor
@@ -221,7 +222,7 @@ to_handler start end handler = record { start = start; end = end; handler = hand
 
 -- a handler that code falls into with two values on the stack
 handler_of_other_depth : verified program (method 8 (codes "m") 2 0
-    (insn 0 1 (ops.Iconst (pos 0)) ∷ insn 1 2 (ops.Iconst (pos 0)) ∷ insn 2 3 ops.Nop ∷ insn 3 4 ops.Pop ∷ insn 4 5 ops.Return ∷ [])
+    (insn 0 1 (ops.Iconst (pos 0)) ∷ insn 1 2 (ops.Iconst (pos 0)) ∷ insn 2 3 ops.Nop ∷ insn 3 4 (ops.Stack moves.Pop) ∷ insn 4 5 ops.Return ∷ [])
     (nothing ∷ nothing ∷ nothing ∷ two_nothings) (to_handler 2 3 3 ∷ [])) ≡ Refused V5 3
 unfolding is_subclass common_ancestor
 handler_of_other_depth = refl
@@ -275,7 +276,7 @@ new_stored_where_covered = refl
 
 -- the top of three values goes below them
 copied_below_three : verified program (method 8 (codes "m") 4 0
-    (insn 0 1 (ops.Iconst (pos 0)) ∷ insn 1 2 ops.AconstNull ∷ insn 2 5 (ops.Getstatic 26) ∷ insn 5 6 ops.DupX2 ∷ insn 6 7 ops.Return ∷ [])
+    (insn 0 1 (ops.Iconst (pos 0)) ∷ insn 1 2 ops.AconstNull ∷ insn 2 5 (ops.Getstatic 26) ∷ insn 5 6 (ops.Stack moves.DupX2) ∷ insn 6 7 ops.Return ∷ [])
     (nothing ∷ nothing ∷ targets.Field 2 ∷ two_nothings) [])
     ≡ Typed (frame [] [] ∷ frame (Int ∷ []) [] ∷ frame (Null ∷ Int ∷ []) [] ∷ frame (Ref 17 ∷ Null ∷ Int ∷ []) [] ∷ frame (Ref 17 ∷ Null ∷ Int ∷ Ref 17 ∷ []) [] ∷ [])
 unfolding is_subclass common_ancestor

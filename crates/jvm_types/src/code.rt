@@ -5,6 +5,7 @@ ghost use Rattle.jvm_types.specs.CodeTable.{iconst_opcode, if_opcode, compare_op
 ghost use Rattle.jvm_types.specs.CodeTable.{first_row, constants, loads, stores, stack_moves};
 ghost use Rattle.jvm_types.specs.CodeTable.{arithmetic, control, references, form_of, plain_op};
 
+use crate::stack_move::StackMove;
 use lists::Rows;
 use std::alloc::{AllocError, Global};
 
@@ -46,13 +47,8 @@ pub enum Op {
     Astore(u16),
     Iaload,
     Iastore,
-    Pop,
-    Pop2,
-    Dup,
-    DupX1,
-    DupX2,
-    Dup2,
-    Swap,
+    /// Values of the stack are moved, and nothing else is done.
+    Stack(StackMove),
     Iadd,
     Isub,
     Imul,
@@ -155,7 +151,7 @@ fn compare_opcode(c: Cmp) -> u8
     }
 }
 
-/// 0x00 to 0x13: a constant is pushed.
+/// Of 0x00 to 0x13, which push a constant, those without operands.
 fn plain_constant(opcode: u8) -> Option<Op>
     ensures { result ≡ plain_op (first_row (constants opcode)) }
 {
@@ -167,7 +163,7 @@ fn plain_constant(opcode: u8) -> Option<Op>
     }
 }
 
-/// 0x15 to 0x2e: a local or an element is pushed.
+/// Of 0x15 to 0x2e, which push a local or an element, those without operands.
 fn plain_load(opcode: u8) -> Option<Op>
     ensures { result ≡ plain_op (first_row (loads opcode)) }
 {
@@ -179,7 +175,7 @@ fn plain_load(opcode: u8) -> Option<Op>
     }
 }
 
-/// 0x36 to 0x4f: a local or an element is written.
+/// Of 0x36 to 0x4f, which write a local or an element, those without operands.
 fn plain_store(opcode: u8) -> Option<Op>
     ensures { result ≡ plain_op (first_row (stores opcode)) }
 {
@@ -191,23 +187,17 @@ fn plain_store(opcode: u8) -> Option<Op>
     }
 }
 
-/// 0x57 to 0x5f: the stack alone.
+/// 0x57 to 0x5f: moves of the stack, which have no operands.
 fn plain_stack_move(opcode: u8) -> Option<Op>
     ensures { result ≡ plain_op (first_row (stack_moves opcode)) }
 {
-    match opcode {
-        0x57 => Some(Op::Pop),
-        0x58 => Some(Op::Pop2),
-        0x59 => Some(Op::Dup),
-        0x5a => Some(Op::DupX1),
-        0x5b => Some(Op::DupX2),
-        0x5c => Some(Op::Dup2),
-        0x5f => Some(Op::Swap),
-        _ => None,
+    match StackMove::of_opcode(opcode) {
+        Some(stack_move) => Some(Op::Stack(stack_move)),
+        None => None,
     }
 }
 
-/// 0x60 to 0x93: arithmetic on ints, and conversions of an int.
+/// Of 0x60 to 0x93, arithmetic on ints and conversions of an int, those without operands.
 fn plain_arithmetic(opcode: u8) -> Option<Op>
     ensures { result ≡ plain_op (first_row (arithmetic opcode)) }
 {
@@ -231,7 +221,7 @@ fn plain_arithmetic(opcode: u8) -> Option<Op>
     }
 }
 
-/// 0x99 to 0xb1: branches, switches and returns.
+/// Of 0x99 to 0xb1, branches, switches and returns, those without operands.
 fn plain_control(opcode: u8) -> Option<Op>
     ensures { result ≡ plain_op (first_row (control opcode)) }
 {
@@ -243,7 +233,7 @@ fn plain_control(opcode: u8) -> Option<Op>
     }
 }
 
-/// 0xb2 to 0xc8: fields, methods, objects and monitors, and the extended branches.
+/// Of 0xb2 to 0xc8, fields, methods, objects, monitors, extended branches, those without operands.
 fn plain_reference(opcode: u8) -> Option<Op>
     ensures { result ≡ plain_op (first_row (references opcode)) }
 {
@@ -298,13 +288,7 @@ impl Op {
             Op::Astore(_) => 0x3a,
             Op::Iaload => 0x2e,
             Op::Iastore => 0x4f,
-            Op::Pop => 0x57,
-            Op::Pop2 => 0x58,
-            Op::Dup => 0x59,
-            Op::DupX1 => 0x5a,
-            Op::DupX2 => 0x5b,
-            Op::Dup2 => 0x5c,
-            Op::Swap => 0x5f,
+            Op::Stack(stack_move) => stack_move.opcode(),
             Op::Iadd => 0x60,
             Op::Isub => 0x64,
             Op::Imul => 0x68,
@@ -368,13 +352,7 @@ impl Op {
             Op::Astore(local) => Ok(Op::Astore(*local)),
             Op::Iaload => Ok(Op::Iaload),
             Op::Iastore => Ok(Op::Iastore),
-            Op::Pop => Ok(Op::Pop),
-            Op::Pop2 => Ok(Op::Pop2),
-            Op::Dup => Ok(Op::Dup),
-            Op::DupX1 => Ok(Op::DupX1),
-            Op::DupX2 => Ok(Op::DupX2),
-            Op::Dup2 => Ok(Op::Dup2),
-            Op::Swap => Ok(Op::Swap),
+            Op::Stack(stack_move) => Ok(Op::Stack(*stack_move)),
             Op::Iadd => Ok(Op::Iadd),
             Op::Isub => Ok(Op::Isub),
             Op::Imul => Ok(Op::Imul),

@@ -20,6 +20,7 @@ pub mod outcome;
 pub mod program;
 pub mod refusal;
 pub mod site;
+pub mod stack_move;
 pub mod typing;
 
 pub use call::Call;
@@ -38,4 +39,5 @@ pub use refusal::{
     ARule, CRule, KRule, LRule, NO_METHOD, Place, Rule, SRule, VRule, in_file, in_method,
 };
 pub use site::Site;
+pub use stack_move::StackMove;
 pub use typing::{TypeFrame, Typing, VType};

@@ -10,6 +10,7 @@ use Rattle.laws_sections.proofs.{ArrayColours.{HasNoColour, each_reached, none_a
 use Rattle.machine_types.specs.{Standing.{Standing, tags_of}, Threads.Frame}
 use Rattle.laws_threads.proofs.{MarkedMethods.method_at, Standings.are_tagged}
 use Rattle.jvm_types.specs.declared.code.Op.TheVariants as ops
+use Rattle.jvm_types.specs.declared.stack_move.StackMove.TheVariants as moves
 
 -- ---- tags without `this`
 
@@ -91,7 +92,7 @@ moved_hides r f h = record {
 
 op_hides : (pc : ℕ) (r : OpRow) (op : Op) (ts : List Tag) (f : TagShape) → ts ≡ f.stack
     → HasNoThis f → HasNoThis (tags_by_op pc r op ts f)
-op_hides pc r ops.Dup (Untagged ∷ ts) f e h =
+op_hides pc r (ops.Stack moves.Dup) (Untagged ∷ ts) f e h =
     let all : Hides (Untagged ∷ ts) = subst Hides (sym e) h.stack in
     let rest : Hides (without pc ts) = hides_without pc ts (λ k. all (suc k)) in
     record {

@@ -13,6 +13,7 @@ use Rattle.laws_objects.proofs.{ArraySlots.IsStart, Buildings.{Building, in_worl
 use Rattle.laws_objects.proofs.Slots.{IsMade, IsWriteMade, stack_moves, local_moves, top_slot, slot_by, slots_started, slot_retag, slots_without, StartOk}
 use Rattle.laws_objects.proofs.WorldChanges.{without, without_gone, without_keeps, finished_without, without_back, world_less, goes_without, goes_same, KeepsLost, lost_same, lost_without}
 use Rattle.jvm_types.specs.declared.code.Op.TheVariants as ops
+use Rattle.jvm_types.specs.declared.stack_move.StackMove.TheVariants as moves
 use Rattle.jvm_types.specs.declared.typing.VType.TheVariants as types
 
 -- ---- the object that is started
@@ -82,7 +83,7 @@ module _ (Old : ℕ → Type 0) (null : Old 0) (Fresh : ℕ → ℕ → Type 0) 
   module _ (p : Program) (m : MethodInfo) (pc : ℕ) (target : Target) where
     pub tags_fine : (op : Op) (s l held : List Tag) (ts ls : List VType) (vs us : List ℕ)
         → TagsFine ts ls vs us (moved_tags (row p m pc target op) (record { stack = s; locals = l; held = held })) → TagsFine ts ls vs us (tags_by_op pc (row p m pc target op) op s (record { stack = s; locals = l; held = held }))
-    tags_fine ops.Dup (Untagged ∷ s) l held ts ls vs us h = dup_fine pc ts ls s l held vs us h.0 h.1
+    tags_fine (ops.Stack moves.Dup) (Untagged ∷ s) l held ts ls vs us h = dup_fine pc ts ls s l held vs us h.0 h.1
     tags_fine ops.Monitorenter (g ∷ s) l held ts ls vs us h = h
     tags_fine op s l held ts ls vs us h = h
 

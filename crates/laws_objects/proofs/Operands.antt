@@ -2,7 +2,7 @@
 use Rattle.std.proofs.Common.{◌≡◌, ◌≢◌, ℕ, zero, suc, ◌<◌, Bool, true, false, not, ◌&&◌, List, [], ◌∷◌, length, Option, Some, refl, subst, sym, arith, ◌==◌, slice_get, slice_index_or}
 use Rattle.std.{specs.List.AllByRecursion, proofs.lemmas.Bool.or_parts}
 use Rattle.lists.proofs.TestLaws.{is_true}
-use Rattle.jvm_types.specs.{CodeTable.{put_row, row}, Types.is_below, Verifying.{suits, some_taken}, declared.{code.Op.Op, op_row.Want.{Want, TheVariants.{AnyValue, AnObject}}}}
+use Rattle.jvm_types.specs.{CodeTable.{any_values, move_takes, put_row, row}, Types.is_below, Verifying.{suits, some_taken}, declared.{code.Op.Op, op_row.Want.{Want, TheVariants.AnObject}}}
 use Rattle.jvm_types.specs.declared.{program.{FieldInfo.FieldInfo, MethodInfo.MethodInfo, Program.Program, Target.{Target, TheVariants.{Field, Init}}}, typing.VType.{VType, TheVariants.{Null, Ref}}}
 use Rattle.checked_program.specs.{Colours.is_read_of, FrozenPlaces.may_take, OwnedArrays.may_take_array, declared.tag.Tag.{Tag, TheVariants.{Untagged, This}}}
 use Rattle.machine_types.specs.{Construction.{puts_owned, builds, makes_frozen, SlotByType, SlotIs, SlotsAre, Runs, IsFresh}, Standing.row_at, Threads.Frame, Worlds.IsFinished}
@@ -79,6 +79,10 @@ module _ (p : Program) (m : MethodInfo) (pc class : ℕ) where
   none_at (want ∷ wants) a zero = a.0
   none_at (want ∷ wants) a (suc k) = none_at wants a.1 k
 
+  any_value : (n : ℕ) → AllByRecursion (λ want. is_object want ≡ false) (any_values n)
+  any_value zero = tt
+  any_value (suc n) = (refl, any_value n)
+
   put_free : (f : Option FieldInfo) (o : Bool) (k : ℕ) → object_at (put_row f).takes k ≡ true → ((k == 1) && o) ≡ false
   put_free (Some f) o zero e = refl
   put_free (Some f) o (suc zero) e = absurd (cc)
@@ -87,13 +91,7 @@ module _ (p : Program) (m : MethodInfo) (pc class : ℕ) where
   -- what is taken as an object has no tag of `this`, but by `getfield`, and is no array of an owned field, but by four instructions
   pub object_free : (op : Op) (target : Target) (k : ℕ) → object_at (row p m pc target op).takes k ≡ true
       → (is_getfield op ≡ false → may_take p class op target k ≡ false) × (takes_any op ≡ false → may_take_array op k ≡ false)
-  object_free ops.Dup target k e = absurd (let z = none_at (AnyValue ∷ []) (refl, tt) k in cc)
-  object_free ops.DupX1 target k e = absurd (let z = none_at (AnyValue ∷ AnyValue ∷ []) (refl, (refl, tt)) k in cc)
-  object_free ops.DupX2 target k e = absurd (let z = none_at (AnyValue ∷ AnyValue ∷ AnyValue ∷ []) (refl, (refl, (refl, tt))) k in cc)
-  object_free ops.Dup2 target k e = absurd (let z = none_at (AnyValue ∷ AnyValue ∷ []) (refl, (refl, tt)) k in cc)
-  object_free ops.Swap target k e = absurd (let z = none_at (AnyValue ∷ AnyValue ∷ []) (refl, (refl, tt)) k in cc)
-  object_free ops.Pop target k e = absurd (let z = none_at (AnyValue ∷ []) (refl, tt) k in cc)
-  object_free ops.Pop2 target k e = absurd (let z = none_at (AnyValue ∷ AnyValue ∷ []) (refl, (refl, tt)) k in cc)
+  object_free (ops.Stack move) target k e = absurd (let z = none_at (any_values (move_takes move)) (any_value (move_takes move)) k in cc)
   object_free (ops.Putfield i) (Field f) k e = (λ g. put_free (slice_get p.fields f) _ k e, λ g. refl)
   object_free (ops.Invokespecial i) (Init started) zero e = absurd (cc)
   object_free (ops.Invokespecial i) (Init started) (suc k) e = absurd (cc)

@@ -14,6 +14,7 @@ use Rattle.laws_sections.proofs.{TagLocal.{acts_land, start_at}, TagOrder.tag_or
 use Rattle.laws_threads.proofs.Tests.{either_way}
 use Rattle.jvm_types.specs.Verifying as types
 use Rattle.jvm_types.specs.declared.code.Op.TheVariants as ops
+use Rattle.jvm_types.specs.declared.stack_move.StackMove.TheVariants as moves
 
 -- ---- any such fact
 
@@ -110,12 +111,12 @@ moved_many r g f k = record {
 
 by_op_many : (p : Program) (m : MethodInfo) (pc : ℕ) (target : Target) (op : Op) (g : TypeFrame) (f : TagShape) → AreAsMany g f
     → AreAsMany (record { stack = stack_after Top (λ t. t) (row p m pc target op) g.stack g.locals; locals = locals_after Top (λ t. t) (row p m pc target op).writes g.stack g.locals; ready = g.ready }) (tags_by_op pc (row p m pc target op) op f.stack f)
-by_op_many p m pc target ops.Dup g f k = by_tags f.stack refl
+by_op_many p m pc target (ops.Stack moves.Dup) g f k = by_tags f.stack refl
   where
-    moved : AreAsMany (record { stack = stack_after Top (λ t. t) (row p m pc target ops.Dup) g.stack g.locals; locals = g.locals; ready = g.ready }) (moved_tags (row p m pc target ops.Dup) f)
-    moved = moved_many (row p m pc target ops.Dup) g f k
+    moved : AreAsMany (record { stack = stack_after Top (λ t. t) (row p m pc target (ops.Stack moves.Dup)) g.stack g.locals; locals = g.locals; ready = g.ready }) (moved_tags (row p m pc target (ops.Stack moves.Dup)) f)
+    moved = moved_many (row p m pc target (ops.Stack moves.Dup)) g f k
 
-    by_tags : (ts : List Tag) → f.stack ≡ ts → AreAsMany (record { stack = stack_after Top (λ t. t) (row p m pc target ops.Dup) g.stack g.locals; locals = g.locals; ready = g.ready }) (tags_by_op pc (row p m pc target ops.Dup) ops.Dup ts f)
+    by_tags : (ts : List Tag) → f.stack ≡ ts → AreAsMany (record { stack = stack_after Top (λ t. t) (row p m pc target (ops.Stack moves.Dup)) g.stack g.locals; locals = g.locals; ready = g.ready }) (tags_by_op pc (row p m pc target (ops.Stack moves.Dup)) (ops.Stack moves.Dup) ts f)
     by_tags (Untagged ∷ ts) e = record {
       stack = ap (λ (n : ℕ). suc (suc n)) (length-map ts _) ∙ (let long : length g.stack ≡ suc (length ts) = sym k.stack ∙ ap (length {A = Tag}) e in ap (λ (n : ℕ). suc (suc n)) (omega (arith, long, length-drop 1 g.stack)));
       locals = length-map f.locals _ ∙ k.locals;

@@ -1,6 +1,7 @@
 -- A property of types that every row keeps: what a row makes has it, and so what is there afterwards.
 use Rattle.std.proofs.Common.{ℕ, zero, suc, List, [], ◌∷◌, ◌++◌, map, Option, Some, None, drop, length, slice_get, slice_set, slice_index_or}
 use Rattle.std.{specs.{List.AllByRecursion, Option.{option_map, option_to_list}}, proofs.lemmas.Bool.cond_both}
+use Rattle.jvm_types.proofs.MoveLaws.{all_moved}
 use Rattle.jvm_types.specs.CodeTable.{type_of, row, constant_row, get_static_row, get_row, put_row, put_static_row, virtual_row, special_row, static_row, value_of, stack_after, locals_after}
 use Rattle.jvm_types.specs.{Types.{TypeFrame, same_type}, Verifying.{frame_after, after_start, started, initialised}, declared.class_numbers.TheConstants.{INT_ARRAY_CLASS, PRINT_STREAM_CLASS}}
 use Rattle.jvm_types.specs.declared.{code.Op.Op, op_row.{Given.{Given, TheVariants.{Fresh, Taken, Local}}, OpRow.OpRow}, program.{Kind.Kind, MethodInfo.MethodInfo}}
@@ -106,4 +107,5 @@ module _ (P : VType → Type 0) (top : P Top) where
     row_fine p m pc new target (ops.Invokestatic i) = constant_fine p pc new target (ops.Invokestatic i)
     row_fine p m pc new target (ops.New i) = constant_fine p pc new target (ops.New i)
     row_fine p m pc new target ops.Newarray = ((refs INT_ARRAY_CLASS, tt), tt)
+    row_fine p m pc new target (ops.Stack move) = (all_moved IsFine (λ place. tt) move, tt)
     row_fine p m pc new target op = assumption

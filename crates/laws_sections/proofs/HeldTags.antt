@@ -10,6 +10,7 @@ use Rattle.checked_program.specs.declared.tag.Tag.TheVariants.{Untagged}
 use Rattle.laws_sections.proofs.{TagActs.{to_handler, AreKept, acts_kept, all_acts}, TagOrder.tag_order, VisitedNodes.{IsFirstOf, IsBelow, LandsOn, IsActFine}}
 use Rattle.laws_sections.proofs.VisitPaths.{AreLive, HasFrame, ActLeads, ActsLead, IsSettled, settled, all_lead, first_live, starts_below, final_frame}
 use Rattle.jvm_types.specs.declared.code.Op.TheVariants as ops
+use Rattle.jvm_types.specs.declared.stack_move.StackMove.TheVariants as moves
 
 -- ---- the first instruction of a pc
 
@@ -32,7 +33,7 @@ abbrev pub AreOwn : Mode → ℕ → List Tag → Type 0
 AreOwn mode depth held = (k : ℕ) → k + depth < length held → is_own_object mode (slice_index_or held k Untagged) ≡ true
 
 own_held : (mode : Mode) (depth pc : ℕ) (r : OpRow) (op : Op) (ts : List Tag) (f : TagShape) → (op ≡ ops.Monitorenter → is_own_object mode (slice_index_or ts 0 Untagged) ≡ true) → AreOwn mode depth f.held → AreOwn mode depth (tags_by_op pc r op ts f).held
-own_held mode depth pc r ops.Dup (Untagged ∷ ts) f enters own = own
+own_held mode depth pc r (ops.Stack moves.Dup) (Untagged ∷ ts) f enters own = own
 own_held mode depth pc r ops.Monitorenter (t ∷ ts) f enters own = at
   where
     at : AreOwn mode depth (t ∷ f.held)

@@ -4,13 +4,14 @@ use Rattle.jvm_types.specs.declared.{code.{Insn.Insn, Op.Op}, op_row.OpRow.OpRow
 use Rattle.checked_program.specs.{LockTags.TagShape, SectionLaws.{IsSectionPart, IsExit, OwnLaw, MoveLaw}, Sections.{IsDeep, StaysDeep, IsInBlock, IsOwn}, Tagging.tags_by_op, declared.tag.Tag.Tag}
 use Rattle.checked_program.specs.{TaggedCode.{Tagged, IsAt, Goes, onward, caught, IsReachedEdge, row_of}, declared.{section.Spot.TheVariants.{Method, Block}, tag.Tag.TheVariants.Untagged}}
 use Rattle.jvm_types.specs.declared.code.Op.TheVariants as ops
+use Rattle.jvm_types.specs.declared.stack_move.StackMove.TheVariants as moves
 
 -- ---- held lists along edges
 
 held_after : (pc : ℕ) (r : OpRow) (op : Op) (ts : List Tag) (f : TagShape) → (op ≡ ops.Monitorexit) ⊎ (length f.held ≤ length (tags_by_op pc r op ts f).held)
 held_after pc r ops.Monitorexit ts f = inl refl
 held_after pc r ops.Monitorenter (t ∷ ts) f = inr (omega arith)
-held_after pc r ops.Dup (Untagged ∷ ts) f = inr (omega arith)
+held_after pc r (ops.Stack moves.Dup) (Untagged ∷ ts) f = inr (omega arith)
 held_after pc r op ts f = inr (omega arith)
 
 exit_after : (pc : ℕ) (r : OpRow) (ts : List Tag) (f : TagShape) → length f.held ≤ suc (length (tags_by_op pc r ops.Monitorexit ts f).held)

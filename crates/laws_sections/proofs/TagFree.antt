@@ -8,6 +8,7 @@ use Rattle.checked_program.specs.{LockTags.{TagShape, same_tag, without, entry_t
 use Rattle.checked_program.specs.declared.tag.Tag.TheVariants.{Untagged, This, At}
 use Rattle.laws_sections.{specs.ReachLaws.{OwnTagIsFree, is_held}, proofs.{TagLocal.tag_local_law, TagOrder.one_tag, TagReach.{all_have, one_there}}}
 use Rattle.jvm_types.specs.declared.code.Op.TheVariants as ops
+use Rattle.jvm_types.specs.declared.stack_move.StackMove.TheVariants as moves
 
 -- ---- where a tag is held
 
@@ -99,7 +100,7 @@ module _ (m : MethodInfo) (frames : List (Option TagShape)) (laid : IsLaidOut m)
   }
 
   free_by_op : (pc : ℕ) (r : OpRow) (op : Op) (ts : List Tag) (f : TagShape) → ts ≡ f.stack → IsFree (At pc) → AreFree f → AreFree (tags_by_op pc r op ts f)
-  free_by_op pc r ops.Dup (Untagged ∷ ts) f e own h =
+  free_by_op pc r (ops.Stack moves.Dup) (Untagged ∷ ts) f e own h =
       record { stack = (own, (own, free_without pc ts (subst (AllByRecursion IsFree) (sym e) h.stack).1)); locals = free_without pc f.locals h.locals; held = h.held }
   free_by_op pc r ops.Monitorenter (t ∷ ts) f e own h =
       let moved = free_moved r f h in

@@ -8,6 +8,7 @@ use Rattle.checked_program.specs.{LockTags.{TagShape, same_tag, same_tags, meet_
 use Rattle.checked_program.specs.Tagging.{moved_tags, tags_by_op, tags_after, tags_at_handler, catchers, enters_untagged, exits_other, leaves_held, tag_meeting, break_if, acts_at, tag_plan}
 use Rattle.laws_sections.proofs.{RowGives.few_given, TagOrder.{own_tag, own_tags, one_frame}, VisitsEnd.{BringsUpTo, Ranks}}
 use Rattle.jvm_types.specs.declared.code.Op.TheVariants as ops
+use Rattle.jvm_types.specs.declared.stack_move.StackMove.TheVariants as moves
 
 -- ---- ranks
 
@@ -97,7 +98,7 @@ rank_locals : (write : Option (ℕ × Given)) (stack locals : List Tag) → tags
 rank_locals None stack locals = omega arith
 rank_locals (Some write) stack locals = rank_set locals write.0 (value_of Untagged (λ type. Untagged) stack locals write.1)
 
-rank_moved : (r : OpRow) (f : TagShape) → length r.gives ≤ 4 → frame_rank (moved_tags r f) ≤ frame_rank f + 9
+rank_moved : (r : OpRow) (f : TagShape) → length r.gives ≤ 6 → frame_rank (moved_tags r f) ≤ frame_rank f + 13
 rank_moved r f h = omega (
   arith,
   h,
@@ -107,8 +108,8 @@ rank_moved r f h = omega (
   rank_locals r.writes f.stack f.locals,
 )
 
-rank_by_op : (pc : ℕ) (r : OpRow) (op : Op) (ts : List Tag) (f : TagShape) → ts ≡ f.stack → length r.gives ≤ 4 → frame_rank (tags_by_op pc r op ts f) ≤ frame_rank f + 9
-rank_by_op pc r ops.Dup (Untagged ∷ ts) f e h = omega (arith, rank_without pc ts, rank_without pc f.locals, ap tags_rank e)
+rank_by_op : (pc : ℕ) (r : OpRow) (op : Op) (ts : List Tag) (f : TagShape) → ts ≡ f.stack → length r.gives ≤ 6 → frame_rank (tags_by_op pc r op ts f) ≤ frame_rank f + 13
+rank_by_op pc r (ops.Stack moves.Dup) (Untagged ∷ ts) f e h = omega (arith, rank_without pc ts, rank_without pc f.locals, ap tags_rank e)
 rank_by_op pc r ops.Monitorenter (t ∷ ts) f e h = rank_moved r f h
 rank_by_op pc r ops.Monitorexit ts f e h = rank_moved r f h
 rank_by_op pc r op ts f e h = rank_moved r f h
@@ -119,13 +120,13 @@ breaks_up : (bound : ℕ) (b : Bool) (rule : SRule) (pc : ℕ) → AllByRecursio
 breaks_up bound true rule pc = (tt, tt)
 breaks_up bound false rule pc = tt
 
-handlers_up : (f : TagShape) (rows : List Row) → AllByRecursion (BringsUpTo frame_rank (frame_rank f + 9)) (map (λ (handler : Row). Bring S3 (handler.handler ∷ []) (tags_at_handler f)) rows)
+handlers_up : (f : TagShape) (rows : List Row) → AllByRecursion (BringsUpTo frame_rank (frame_rank f + 13)) (map (λ (handler : Row). Bring S3 (handler.handler ∷ []) (tags_at_handler f)) rows)
 handlers_up f [] = tt
 handlers_up f (handler ∷ rows) = (omega arith, handlers_up f rows)
 
-acts_up : (p : Program) (m : MethodInfo) (o : Option Insn) (q : Option Target) (f : TagShape) → AllByRecursion (BringsUpTo frame_rank (frame_rank f + 9)) (acts_at p m o q f)
+acts_up : (p : Program) (m : MethodInfo) (o : Option Insn) (q : Option Target) (f : TagShape) → AllByRecursion (BringsUpTo frame_rank (frame_rank f + 13)) (acts_at p m o q f)
 acts_up p m (Some insn) (Some target) f =
-    let most : ℕ = frame_rank f + 9 in
+    let most : ℕ = frame_rank f + 13 in
     let enters = break_if (enters_untagged insn.op f.stack) S1 insn.pc in
     let exits = break_if (exits_other insn.op f.stack f.held) S2 insn.pc in
     let brings : List (Act TagShape SRule) = Bring S3 (edges insn) (tags_after insn (row p m insn.pc target insn.op) f) ∷ map (λ (handler : Row). Bring S3 (handler.handler ∷ []) (tags_at_handler f)) (catchers m insn) in
@@ -138,4 +139,4 @@ acts_up p m (Some insn) (Some target) f =
 acts_up p m o q f = tt
 
 pub tag_ranks : (p : Program) (m : MethodInfo) → Ranks (tag_plan p m)
-tag_ranks p m = record { rank = frame_rank; gain = 9; equal = one_frame; falls = frame_falls; gains = λ i f. acts_up p m (slice_get m.code i) (slice_get m.targets i) f }
+tag_ranks p m = record { rank = frame_rank; gain = 13; equal = one_frame; falls = frame_falls; gains = λ i f. acts_up p m (slice_get m.code i) (slice_get m.targets i) f }

@@ -10,6 +10,7 @@ use Rattle.machine_types.proofs.EffectCases.{Comes, lacks, goes, refuses, loads_
 use Rattle.machine_types.proofs.EffectCases.{prints, calls, calls_fixed, returns, enters, leaves, waits, notifies, notifies_all, HasTop, HasReturned, LeadsTo, locks, suits, next_edge, comes}
 use Rattle.laws_threads.specs.MoveLaws.{is_lock_op}
 use Rattle.jvm_types.specs.declared.code.Op.TheVariants as ops
+use Rattle.jvm_types.specs.declared.stack_move.StackMove.TheVariants.{Dup}
 use Rattle.jvm_types.specs.declared.program.Target.TheVariants as targets
 use Rattle.jvm_types.specs.declared.typing.VType.TheVariants as types
 
@@ -21,7 +22,7 @@ IsMove insn to = (is_lock_op insn.op ≡ false) × (has_number (edges insn) to �
 
 -- whether it is a `dup`, which makes tags
 abbrev pub is_dup : Op → Bool
-is_dup ops.Dup = true
+is_dup (ops.Stack Dup) = true
 is_dup op = false
 
 -- it goes on with one new value alone

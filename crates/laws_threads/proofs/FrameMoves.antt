@@ -1,7 +1,7 @@
 -- Moves of the top frame within its method.
 use Rattle.std.{proofs.Common.{◌≡◌, ℕ, Bool, true, false, ◌||◌, List, [], ◌∷◌, ◌++◌, map, drop, length, Option, None, refl, sym, ap, ◌∙◌, subst, arith, ◌==◌}, specs.List.AllByRecursion}
 use Rattle.std.proofs.lemmas.Bool.Decides.{nat_tests}
-use Rattle.jvm_types.specs.{CodeTable.{row, value_of, stack_after, locals_after, any_values}, Numbers.has_number, Verifying.edges, declared.{code.Op.Op, op_row.Given.{Given, TheVariants.Taken}}}
+use Rattle.jvm_types.specs.{CodeTable.{row, value_of, stack_after, locals_after, move_row}, Numbers.has_number, Verifying.edges, declared.{code.Op.Op, op_row.Given.{Given, TheVariants.Taken}}}
 use Rattle.jvm_types.specs.declared.op_row.OpRow.{OpRow}
 use Rattle.checked_program.specs.{LockTags.{TagShape, without, IsShapeBelow}, MarkedProgram.{MarkedProgram, IsMarked}, TaggedCode.row_of, Tagging.{moved_tags, tags_by_op, tags_after}, Visits.EdgeFits}
 use Rattle.checked_program.specs.declared.tag.Tag.{Tag, TheVariants.{Untagged, At}}
@@ -9,6 +9,7 @@ use Rattle.machine_types.specs.{Frames.frame_on, Shown.{tag_value, HaveValues, o
 use Rattle.laws_threads.{specs.MoveLaws.is_lock_op, proofs.{EffectsOfInsns.{is_dup, IsMaking}, FramePlaces.{of_standing, sound_at}, MarkedMethods.free_at}}
 use Rattle.laws_threads.proofs.{ShownFrames.{landed, whole_landed, shows_landed}, TagValues.{weaker, dropped, row_stack, row_locals, chosen, rechosen, values_kept, chosen_there}, Tests.either_way}
 use Rattle.jvm_types.specs.declared.code.Op.TheVariants as ops
+use Rattle.jvm_types.specs.declared.stack_move.StackMove.TheVariants as moves
 
 -- ---- edges
 
@@ -19,21 +20,18 @@ picked P to (x ∷ tos) h e = either_way (λ (b : Bool). (x == to) ≡ b → (b 
     (λ t e more. more e) refl e (λ e. picked P to tos h.1 e)
 
 pub plain_after : (pc : ℕ) (r : OpRow) (op : Op) (ts : List Tag) (f : TagShape) → is_lock_op op ≡ false → is_dup op ≡ false → tags_by_op pc r op ts f ≡ moved_tags r f
-plain_after pc r ops.Dup ts f e d = absurd (cc)
+plain_after pc r (ops.Stack moves.Dup) ts f e d = absurd (cc)
 plain_after pc r ops.Monitorenter ts f e d = absurd (cc)
 plain_after pc r ops.Monitorexit ts f e d = absurd (cc)
 plain_after pc r op ts f e d = refl
 
-dup_is : (op : Op) → is_dup op ≡ true → op ≡ ops.Dup
-dup_is ops.Dup e = refl
+dup_is : (op : Op) → is_dup op ≡ true → op ≡ ops.Stack moves.Dup
+dup_is (ops.Stack moves.Dup) e = refl
 dup_is op e = absurd (cc)
 
 -- the tags behind a `dup` at a pc
 abbrev marked_by : (pc : ℕ) → TagShape → List Tag → TagShape
 marked_by pc was ts = record { stack = At pc ∷ At pc ∷ without pc ts; locals = without pc was.locals; held = was.held }
-
-abbrev dup_row : OpRow
-dup_row = record { takes = any_values 1; gives = Taken 0 ∷ Taken 0 ∷ []; reads = None; writes = None }
 
 module _ (c : MarkedProgram) (is : IsMarked c) where
   abbrev pub the_row : (f : Frame) → Standing c f → OpRow
@@ -61,7 +59,7 @@ module _ (c : MarkedProgram) (is : IsMarked c) where
       refl
 
   -- a `dup` of an untagged value: its tag has that value from then on
-  pub doubled : (f : Frame) (own : List ℕ) (top : Shows c Whole f own) (to made : ℕ) → top.stands.insn.op ≡ ops.Dup → has_number (edges top.stands.insn) to ≡ true → Shows c Whole (frame_on (the_row f top.stands) to made f) own
+  pub doubled : (f : Frame) (own : List ℕ) (top : Shows c Whole f own) (to made : ℕ) → top.stands.insn.op ≡ ops.Stack moves.Dup → has_number (edges top.stands.insn) to ≡ true → Shows c Whole (frame_on (the_row f top.stands) to made f) own
   doubled f own top to made dup edge =
       by_tags top.stands.tags.stack (subst (λ (op : Op). EdgeFits IsShapeBelow top.stands.method.code top.stands.at.frames (tags_by_op top.stands.insn.pc (the_row f top.stands) op top.stands.tags.stack top.stands.tags) to) dup (edge_fits f top.stands to edge)) top.stack
     where
@@ -70,14 +68,14 @@ module _ (c : MarkedProgram) (is : IsMarked c) where
       by_stack [] ts e h fits = absurd h
       by_stack (v ∷ vs) ts e h fits =
           subst (λ (x : OpRow). Shows c Whole (frame_on x to made f) own) (sym (ap (λ (op : Op). row c.program top.stands.method top.stands.insn.pc top.stands.target op) dup))
-          (again f own top (marked_by top.stands.insn.pc top.stands.tags ts) (chosen top.stands.insn.pc v top.choice) to f.locals (stack_after 0 (λ type. made) dup_row f.stack f.locals) fits
+          (again f own top (marked_by top.stands.insn.pc top.stands.tags ts) (chosen top.stands.insn.pc v top.choice) to f.locals (stack_after 0 (λ type. made) (move_row moves.Dup) f.stack f.locals) fits
           (rechosen top.choice f.receiver top.stands.insn.pc v top.stands.tags.locals f.locals top.locals)
-          (subst (λ (ws : List ℕ). HaveValues (chosen top.stands.insn.pc v top.choice) f.receiver (At top.stands.insn.pc ∷ At top.stands.insn.pc ∷ without top.stands.insn.pc ts) (stack_after 0 (λ type. made) dup_row ws f.locals)) (sym e)
+          (subst (λ (ws : List ℕ). HaveValues (chosen top.stands.insn.pc v top.choice) f.receiver (At top.stands.insn.pc ∷ At top.stands.insn.pc ∷ without top.stands.insn.pc ts) (stack_after 0 (λ type. made) (move_row moves.Dup) ws f.locals)) (sym e)
           (chosen_there top.choice f.receiver top.stands.insn.pc v, (chosen_there top.choice f.receiver top.stands.insn.pc v, rechosen top.choice f.receiver top.stands.insn.pc v ts vs h.1)))
           (values_kept top.choice f.receiver top.stands.insn.pc v top.stands.tags.held
           (free_at c.program top.stands.method top.stands.at.frames top.stands.frames (of_standing c is f top.stands) top.stands.number top.stands.insn top.stands.tags top.stands.at.in_code top.stands.at.frame)))
 
-      by_tags : (ts : List Tag) → EdgeFits IsShapeBelow top.stands.method.code top.stands.at.frames (tags_by_op top.stands.insn.pc (the_row f top.stands) ops.Dup ts top.stands.tags) to → HaveValues top.choice f.receiver ts f.stack
+      by_tags : (ts : List Tag) → EdgeFits IsShapeBelow top.stands.method.code top.stands.at.frames (tags_by_op top.stands.insn.pc (the_row f top.stands) (ops.Stack moves.Dup) ts top.stands.tags) to → HaveValues top.choice f.receiver ts f.stack
           → Shows c Whole (frame_on (the_row f top.stands) to made f) own
       by_tags (Untagged ∷ ts) fits h = by_stack f.stack ts refl h fits
       by_tags ts fits h = by_row f own top to made fits

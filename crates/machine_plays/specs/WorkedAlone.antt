@@ -1,6 +1,7 @@
 -- Worked programs of one thread and one method.
 use Rattle.std.specs.Prelude.{ℕ, ℤ, pos, List, [], ◌∷◌, Some, None, codes}
 use Rattle.jvm_types.specs.declared.code.Op.TheVariants as ops
+use Rattle.jvm_types.specs.declared.stack_move.StackMove.TheVariants.{Dup, Pop}
 use Rattle.jvm_types.specs.declared.program.Kind.TheVariants as kinds
 use Rattle.jvm_types.specs.declared.program.Target.TheVariants as targets
 use Rattle.checked_program.specs.MarkedProgram.{MarkedProgram}
@@ -62,24 +63,24 @@ low_bit =
 
 abbrev pub measure_null : List InstructionLine
 measure_null =
-    plain_line 0 1 ops.AconstNull ∷ plain_line 1 2 ops.Arraylength ∷ plain_line 2 3 ops.Pop
+    plain_line 0 1 ops.AconstNull ∷ plain_line 1 2 ops.Arraylength ∷ plain_line 2 3 (ops.Stack Pop)
     ∷ plain_line 3 4 ops.Return ∷ []
 
 -- a division by 0 that the second row catches, which prints 4
 abbrev pub catch_by_class : List InstructionLine
 catch_by_class =
     plain_line 0 1 (ops.Iconst (pos 1)) ∷ plain_line 1 2 (ops.Iconst (pos 0))
-    ∷ plain_line 2 3 ops.Idiv ∷ plain_line 3 4 ops.Pop ∷ plain_line 4 5 ops.Return
-    ∷ plain_line 5 6 ops.Pop ∷ line_to 6 9 (ops.Getstatic 10) targets.Out
+    ∷ plain_line 2 3 ops.Idiv ∷ plain_line 3 4 (ops.Stack Pop) ∷ plain_line 4 5 ops.Return
+    ∷ plain_line 5 6 (ops.Stack Pop) ∷ line_to 6 9 (ops.Getstatic 10) targets.Out
     ∷ plain_line 9 10 (ops.Iconst (pos 4)) ∷ line_to 10 13 (ops.Invokevirtual 17) targets.Println
     ∷ plain_line 13 14 ops.Return ∷ []
 
 -- an exception leaves a synchronized method, whose section is marked
 abbrev pub call_and_divide : List InstructionLine
 call_and_divide =
-    line_to 0 3 (ops.New 2) (targets.Class 17) ∷ plain_line 3 4 ops.Dup
+    line_to 0 3 (ops.New 2) (targets.Class 17) ∷ plain_line 3 4 (ops.Stack Dup)
     ∷ line_to 4 7 (ops.Invokespecial 5) (targets.Method 0)
-    ∷ line_to 7 10 (ops.Invokevirtual 7) (targets.Method 1) ∷ plain_line 10 11 ops.Pop
+    ∷ line_to 7 10 (ops.Invokevirtual 7) (targets.Method 1) ∷ plain_line 10 11 (ops.Stack Pop)
     ∷ plain_line 11 12 ops.Return ∷ []
 
 abbrev pub divide_and_return : List InstructionLine
@@ -97,7 +98,7 @@ leaves_by_exception = loaded (codes "T") 0 []
 abbrev pub divide_by_zero : List InstructionLine
 divide_by_zero =
     plain_line 0 1 (ops.Iconst (pos 1)) ∷ plain_line 1 2 (ops.Iconst (pos 0))
-    ∷ plain_line 2 3 ops.Idiv ∷ plain_line 3 4 ops.Pop ∷ plain_line 4 5 ops.Return ∷ []
+    ∷ plain_line 2 3 ops.Idiv ∷ plain_line 3 4 (ops.Stack Pop) ∷ plain_line 4 5 ops.Return ∷ []
 
 abbrev pub call_itself : List InstructionLine
 call_itself = line_to 0 3 (ops.Invokestatic 8) (targets.Method 0) ∷ plain_line 3 4 ops.Return ∷ []
@@ -116,11 +117,11 @@ index_and_throw =
     ∷ plain_line 12 13 (ops.Aload 0) ∷ plain_line 13 14 (ops.Iconst (pos 1))
     ∷ plain_line 14 15 ops.Iaload ∷ line_to 15 18 (ops.Invokevirtual 16) targets.Println
     ∷ plain_line 18 19 (ops.Aload 0) ∷ plain_line 19 20 (ops.Iconst (pos 3))
-    ∷ plain_line 20 21 ops.Iaload ∷ plain_line 21 22 ops.Pop ∷ plain_line 22 23 ops.Return
-    ∷ plain_line 23 24 ops.Pop ∷ line_to 24 27 (ops.Getstatic 10) targets.Out
+    ∷ plain_line 20 21 ops.Iaload ∷ plain_line 21 22 (ops.Stack Pop) ∷ plain_line 22 23 ops.Return
+    ∷ plain_line 23 24 (ops.Stack Pop) ∷ line_to 24 27 (ops.Getstatic 10) targets.Out
     ∷ plain_line 27 28 (ops.Aload 0) ∷ plain_line 28 29 ops.Arraylength
     ∷ line_to 29 32 (ops.Invokevirtual 16) targets.Println
-    ∷ line_to 32 35 (ops.New 18) (targets.Class 5) ∷ plain_line 35 36 ops.Dup
+    ∷ line_to 32 35 (ops.New 18) (targets.Class 5) ∷ plain_line 35 36 (ops.Stack Dup)
     ∷ line_to 36 39 (ops.Invokespecial 22) (targets.Init 5) ∷ plain_line 39 40 ops.Athrow ∷ []
 
 abbrev pub make_array : (n : ℤ) → List InstructionLine

@@ -2,6 +2,7 @@
 -- 2.11.10).
 use Rattle.std.specs.Prelude.{ℕ, pos, List, [], ◌∷◌, Some, None, codes}
 use Rattle.jvm_types.specs.declared.code.Op.TheVariants as ops
+use Rattle.jvm_types.specs.declared.stack_move.StackMove.TheVariants.{Pop}
 use Rattle.jvm_types.specs.declared.code.Cmp.TheVariants as cmps
 use Rattle.jvm_types.specs.declared.program.Kind.TheVariants as kinds
 use Rattle.jvm_types.specs.declared.program.Target.TheVariants as targets
@@ -81,7 +82,7 @@ shared_statics workers = loaded (codes "S") workers static_ints
 
 abbrev call_and_drop : List InstructionLine
 call_and_drop =
-    line_to 0 3 (ops.Invokestatic 7) (targets.Method 0) ∷ plain_line 3 4 ops.Pop
+    line_to 0 3 (ops.Invokestatic 7) (targets.Method 0) ∷ plain_line 3 4 (ops.Stack Pop)
     ∷ plain_line 4 5 ops.Return ∷ []
 
 abbrev pub leaves_class_by_exception : MarkedProgram

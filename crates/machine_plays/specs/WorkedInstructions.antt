@@ -2,6 +2,8 @@
 -- yet gets its lines and its print here.
 use Rattle.std.specs.Prelude.{pos, negsuc, List, [], ◌∷◌, Some, None, codes}
 use Rattle.jvm_types.specs.declared.code.Op.TheVariants as ops
+use Rattle.jvm_types.specs.declared.stack_move.StackMove.TheVariants.{Dup2, DupX1, DupX2, Pop2}
+use Rattle.jvm_types.specs.declared.stack_move.StackMove.TheVariants.{Swap}
 use Rattle.jvm_types.specs.declared.outcome.End.TheVariants as ends
 use Rattle.jvm_types.specs.declared.program.Kind.TheVariants as kinds
 use Rattle.jvm_types.specs.declared.program.Target.TheVariants as targets
@@ -86,25 +88,25 @@ give_back = plain_line 0 1 (ops.Aload 0) ∷ plain_line 1 2 ops.Areturn ∷ []
 abbrev pub move_and_branch : List InstructionLine
 move_and_branch =
     plain_line 0 1 (ops.Iconst (pos 1)) ∷ plain_line 1 2 (ops.Iconst (pos 2))
-    ∷ plain_line 2 3 ops.DupX1 ∷ plain_line 3 4 ops.Isub ∷ plain_line 4 5 ops.Isub
+    ∷ plain_line 2 3 (ops.Stack DupX1) ∷ plain_line 3 4 ops.Isub ∷ plain_line 4 5 ops.Isub
     ∷ plain_line 5 6 (ops.Istore 0) ∷ line_to 6 9 (ops.Getstatic 13) targets.Out
     ∷ plain_line 9 10 (ops.Iload 0) ∷ line_to 10 13 (ops.Invokevirtual 19) targets.Println
     ∷ plain_line 13 14 (ops.Iconst (pos 1)) ∷ plain_line 14 15 (ops.Iconst (pos 2))
-    ∷ plain_line 15 16 (ops.Iconst (pos 3)) ∷ plain_line 16 17 ops.DupX2
+    ∷ plain_line 15 16 (ops.Iconst (pos 3)) ∷ plain_line 16 17 (ops.Stack DupX2)
     ∷ plain_line 17 18 ops.Isub ∷ plain_line 18 19 ops.Isub ∷ plain_line 19 20 ops.Isub
     ∷ plain_line 20 21 (ops.Istore 0) ∷ line_to 21 24 (ops.Getstatic 13) targets.Out
     ∷ plain_line 24 25 (ops.Iload 0) ∷ line_to 25 28 (ops.Invokevirtual 19) targets.Println
     ∷ plain_line 28 29 (ops.Iconst (pos 1)) ∷ plain_line 29 30 (ops.Iconst (pos 2))
-    ∷ plain_line 30 31 ops.Dup2 ∷ plain_line 31 32 ops.Isub ∷ plain_line 32 33 ops.Isub
+    ∷ plain_line 30 31 (ops.Stack Dup2) ∷ plain_line 31 32 ops.Isub ∷ plain_line 32 33 ops.Isub
     ∷ plain_line 33 34 ops.Isub ∷ plain_line 34 35 (ops.Istore 0)
     ∷ line_to 35 38 (ops.Getstatic 13) targets.Out ∷ plain_line 38 39 (ops.Iload 0)
     ∷ line_to 39 42 (ops.Invokevirtual 19) targets.Println ∷ plain_line 42 43 (ops.Iconst (pos 1))
-    ∷ plain_line 43 44 (ops.Iconst (pos 2)) ∷ plain_line 44 45 ops.Swap
+    ∷ plain_line 43 44 (ops.Iconst (pos 2)) ∷ plain_line 44 45 (ops.Stack Swap)
     ∷ plain_line 45 46 ops.Isub ∷ plain_line 46 47 (ops.Istore 0)
     ∷ line_to 47 50 (ops.Getstatic 13) targets.Out ∷ plain_line 50 51 (ops.Iload 0)
     ∷ line_to 51 54 (ops.Invokevirtual 19) targets.Println ∷ plain_line 54 55 (ops.Iconst (pos 5))
     ∷ plain_line 55 56 (ops.Iconst (pos 1)) ∷ plain_line 56 57 (ops.Iconst (pos 2))
-    ∷ plain_line 57 58 ops.Pop2 ∷ plain_line 58 59 (ops.Istore 0)
+    ∷ plain_line 57 58 (ops.Stack Pop2) ∷ plain_line 58 59 (ops.Istore 0)
     ∷ line_to 59 62 (ops.Getstatic 13) targets.Out ∷ plain_line 62 63 (ops.Iload 0)
     ∷ line_to 63 66 (ops.Invokevirtual 19) targets.Println ∷ plain_line 66 67 (ops.Iconst (pos 5))
     ∷ plain_line 67 68 (ops.Iconst (pos 3)) ∷ plain_line 68 69 ops.Iand

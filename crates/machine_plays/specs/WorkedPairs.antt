@@ -2,6 +2,7 @@
 use Rattle.std.specs.Prelude.{ℕ, ◌+◌, pos, List, [], ◌∷◌, ◌++◌, Some, None, codes}
 use Rattle.jvm_types.specs.declared.code.Op.{Op}
 use Rattle.jvm_types.specs.declared.code.Op.TheVariants as ops
+use Rattle.jvm_types.specs.declared.stack_move.StackMove.TheVariants.{Dup}
 use Rattle.jvm_types.specs.declared.code.Cmp.TheVariants as cmps
 use Rattle.jvm_types.specs.declared.program.Kind.TheVariants as kinds
 use Rattle.jvm_types.specs.declared.program.Target.TheVariants as targets
@@ -46,7 +47,7 @@ sum_fields =
 
 abbrev pub sum_in_block : List InstructionLine
 sum_in_block =
-    plain_line 0 1 (ops.Aload 0) ∷ plain_line 1 2 ops.Dup ∷ plain_line 2 3 (ops.Astore 1)
+    plain_line 0 1 (ops.Aload 0) ∷ plain_line 1 2 (ops.Stack Dup) ∷ plain_line 2 3 (ops.Astore 1)
     ∷ plain_line 3 4 ops.Monitorenter ∷ plain_line 4 5 (ops.Aload 0)
     ∷ line_to 5 8 (ops.Getfield 16) (targets.Field 0) ∷ plain_line 8 9 (ops.Aload 0)
     ∷ line_to 9 12 (ops.Getfield 18) (targets.Field 1) ∷ plain_line 12 13 ops.Iadd
@@ -57,7 +58,7 @@ sum_in_block =
 
 abbrev pub divide_in_block : List InstructionLine
 divide_in_block =
-    plain_line 0 1 (ops.Aload 0) ∷ plain_line 1 2 ops.Dup ∷ plain_line 2 3 (ops.Astore 1)
+    plain_line 0 1 (ops.Aload 0) ∷ plain_line 1 2 (ops.Stack Dup) ∷ plain_line 2 3 (ops.Astore 1)
     ∷ plain_line 3 4 ops.Monitorenter ∷ plain_line 4 6 (ops.Bipush (pos 10))
     ∷ plain_line 6 7 (ops.Aload 0) ∷ line_to 7 10 (ops.Getfield 18) (targets.Field 0)
     ∷ plain_line 10 11 (ops.Aload 0) ∷ line_to 11 14 (ops.Getfield 16) (targets.Field 1)
@@ -69,7 +70,7 @@ divide_in_block =
 
 abbrev pub count_in_block : List InstructionLine
 count_in_block =
-    plain_line 0 1 (ops.Aload 0) ∷ plain_line 1 2 ops.Dup ∷ plain_line 2 3 (ops.Astore 1)
+    plain_line 0 1 (ops.Aload 0) ∷ plain_line 1 2 (ops.Stack Dup) ∷ plain_line 2 3 (ops.Astore 1)
     ∷ plain_line 3 4 ops.Monitorenter ∷ plain_line 4 5 (ops.Aload 0)
     ∷ line_to 5 8 (ops.Getfield 16) (targets.Field 1) ∷ plain_line 8 9 (ops.Istore 2)
     ∷ plain_line 9 10 (ops.Iload 2) ∷ plain_line 10 11 (ops.Aload 0)
@@ -107,13 +108,13 @@ marks = mark 1 spots.Method 1 ∷ mark 2 (spots.Block 3) 0 ∷ []
 
 abbrev pub make_shared : List InstructionLine
 make_shared =
-    line_to 0 3 (ops.New 2) (targets.Class 17) ∷ plain_line 3 4 ops.Dup
+    line_to 0 3 (ops.New 2) (targets.Class 17) ∷ plain_line 3 4 (ops.Stack Dup)
     ∷ line_to 4 7 (ops.Invokespecial 23) (targets.Method 0)
     ∷ line_to 7 10 (ops.Putstatic 25) (targets.Field 2) ∷ plain_line 10 11 ops.Return ∷ []
 
 abbrev pub make_and_set : List InstructionLine
 make_and_set =
-    line_to 0 3 (ops.New 2) (targets.Class 17) ∷ plain_line 3 4 ops.Dup
+    line_to 0 3 (ops.New 2) (targets.Class 17) ∷ plain_line 3 4 (ops.Stack Dup)
     ∷ line_to 4 7 (ops.Invokespecial 23) (targets.Method 0)
     ∷ line_to 7 10 (ops.Putstatic 25) (targets.Field 2)
     ∷ line_to 10 13 (ops.Getstatic 25) (targets.Field 2) ∷ plain_line 13 14 (ops.Iconst (pos 0))
@@ -150,7 +151,7 @@ print_sum =
 
 abbrev pub set_and_print : List InstructionLine
 set_and_print =
-    line_to 0 3 (ops.New 2) (targets.Class 17) ∷ plain_line 3 4 ops.Dup
+    line_to 0 3 (ops.New 2) (targets.Class 17) ∷ plain_line 3 4 (ops.Stack Dup)
     ∷ line_to 4 7 (ops.Invokespecial 23) (targets.Method 0)
     ∷ line_to 7 10 (ops.Putstatic 25) (targets.Field 2)
     ∷ line_to 10 13 (ops.Getstatic 25) (targets.Field 2) ∷ plain_line 13 14 (ops.Iconst (pos 4))
@@ -170,7 +171,7 @@ set_and_print =
 
 abbrev pub set_and_print_twice : List InstructionLine
 set_and_print_twice =
-    line_to 0 3 (ops.New 2) (targets.Class 17) ∷ plain_line 3 4 ops.Dup
+    line_to 0 3 (ops.New 2) (targets.Class 17) ∷ plain_line 3 4 (ops.Stack Dup)
     ∷ line_to 4 7 (ops.Invokespecial 26) (targets.Method 0)
     ∷ line_to 7 10 (ops.Putstatic 28) (targets.Field 2)
     ∷ line_to 10 13 (ops.Getstatic 28) (targets.Field 2) ∷ plain_line 13 14 (ops.Iconst (pos 4))

@@ -1,6 +1,7 @@
 -- Worked classes whose threads wait, notify, and lock each other out.
 use Rattle.std.specs.Prelude.{ℕ, pos, List, [], ◌∷◌, None, codes}
 use Rattle.jvm_types.specs.declared.code.Op.TheVariants as ops
+use Rattle.jvm_types.specs.declared.stack_move.StackMove.TheVariants.{Dup}
 use Rattle.jvm_types.specs.declared.code.Cmp.TheVariants as cmps
 use Rattle.jvm_types.specs.declared.program.Kind.TheVariants as kinds
 use Rattle.jvm_types.specs.declared.program.Target.TheVariants as targets
@@ -17,7 +18,7 @@ fields = static_field (kinds.Ref 17) 2070 ∷ []
 
 abbrev pub make_shared_waiter : List InstructionLine
 make_shared_waiter =
-    line_to 0 3 (ops.New 2) (targets.Class 17) ∷ plain_line 3 4 ops.Dup
+    line_to 0 3 (ops.New 2) (targets.Class 17) ∷ plain_line 3 4 (ops.Stack Dup)
     ∷ line_to 4 7 (ops.Invokespecial 12) (targets.Method 0)
     ∷ line_to 7 10 (ops.Putstatic 14) (targets.Field 0) ∷ plain_line 10 11 ops.Return ∷ []
 
@@ -98,10 +99,10 @@ waits_deep = loaded (codes "N") 3 fields
 
 abbrev pub make_two : List InstructionLine
 make_two =
-    line_to 0 3 (ops.New 4) (targets.Class 1) ∷ plain_line 3 4 ops.Dup
+    line_to 0 3 (ops.New 4) (targets.Class 1) ∷ plain_line 3 4 (ops.Stack Dup)
     ∷ line_to 4 7 (ops.Invokespecial 11) (targets.Init 1)
     ∷ line_to 7 10 (ops.Putstatic 14) (targets.Field 0)
-    ∷ line_to 10 13 (ops.New 4) (targets.Class 1) ∷ plain_line 13 14 ops.Dup
+    ∷ line_to 10 13 (ops.New 4) (targets.Class 1) ∷ plain_line 13 14 (ops.Stack Dup)
     ∷ line_to 14 17 (ops.Invokespecial 11) (targets.Init 1)
     ∷ line_to 17 20 (ops.Putstatic 16) (targets.Field 1) ∷ plain_line 20 21 ops.Return ∷ []
 
@@ -109,8 +110,9 @@ abbrev pub enter_two : List InstructionLine
 enter_two =
     plain_line 0 1 (ops.Iload 0) ∷ plain_line 1 2 (ops.Iconst (pos 1))
     ∷ plain_line 2 5 (ops.IfIcmp cmps.Ne 40) ∷ line_to 5 8 (ops.Getstatic 14) (targets.Field 0)
-    ∷ plain_line 8 9 ops.Dup ∷ plain_line 9 10 (ops.Astore 1) ∷ plain_line 10 11 ops.Monitorenter
-    ∷ line_to 11 14 (ops.Getstatic 16) (targets.Field 1) ∷ plain_line 14 15 ops.Dup
+    ∷ plain_line 8 9 (ops.Stack Dup) ∷ plain_line 9 10 (ops.Astore 1)
+    ∷ plain_line 10 11 ops.Monitorenter
+    ∷ line_to 11 14 (ops.Getstatic 16) (targets.Field 1) ∷ plain_line 14 15 (ops.Stack Dup)
     ∷ plain_line 15 16 (ops.Astore 2) ∷ plain_line 16 17 ops.Monitorenter
     ∷ plain_line 17 18 (ops.Aload 2) ∷ plain_line 18 19 ops.Monitorexit
     ∷ plain_line 19 22 (ops.Goto 27) ∷ plain_line 22 23 (ops.Astore 3)
@@ -120,9 +122,9 @@ enter_two =
     ∷ plain_line 29 32 (ops.Goto 39) ∷ plain_line 32 34 (ops.Astore 4)
     ∷ plain_line 34 35 (ops.Aload 1) ∷ plain_line 35 36 ops.Monitorexit
     ∷ plain_line 36 38 (ops.Aload 4) ∷ plain_line 38 39 ops.Athrow ∷ plain_line 39 40 ops.Return
-    ∷ line_to 40 43 (ops.Getstatic 16) (targets.Field 1) ∷ plain_line 43 44 ops.Dup
+    ∷ line_to 40 43 (ops.Getstatic 16) (targets.Field 1) ∷ plain_line 43 44 (ops.Stack Dup)
     ∷ plain_line 44 45 (ops.Astore 1) ∷ plain_line 45 46 ops.Monitorenter
-    ∷ line_to 46 49 (ops.Getstatic 14) (targets.Field 0) ∷ plain_line 49 50 ops.Dup
+    ∷ line_to 46 49 (ops.Getstatic 14) (targets.Field 0) ∷ plain_line 49 50 (ops.Stack Dup)
     ∷ plain_line 50 51 (ops.Astore 2) ∷ plain_line 51 52 ops.Monitorenter
     ∷ plain_line 52 53 (ops.Aload 2) ∷ plain_line 53 54 ops.Monitorexit
     ∷ plain_line 54 57 (ops.Goto 62) ∷ plain_line 57 58 (ops.Astore 3)

@@ -10,7 +10,7 @@ ghost use Rattle.monitor_tags.specs.Held.{entered_tags};
 use crate::tag_stacks::untag;
 use checked_program::{Tag, TagFrame, TagLocals, same_tag};
 use jvm_types::flags::is_static;
-use jvm_types::{Given, Insn, MethodInfo, Op, OpRow, Rows, Stack};
+use jvm_types::{Given, Insn, MethodInfo, Op, OpRow, Rows, Stack, StackMove};
 use std::alloc::{AllocError, Global};
 
 /// The tag of a value that is pushed, or written to a local; what an instruction makes is untagged.
@@ -143,7 +143,7 @@ pub fn frame_after(
     ensures { IfOk result (λ after. after ≡ tags_after insn.now row.now f.now) }
 {
     match insn.op {
-        Op::Dup => match f.stack().get(0) {
+        Op::Stack(StackMove::Dup) => match f.stack().get(0) {
             Some(Tag::Untagged) => tagged_dup(alloc, insn.pc, f),
             _ => moved(alloc, row, f),
         },
