@@ -1,6 +1,6 @@
 -- What is decided of a thread in a play is what agreement says of it.
-use Rattle.std.{proofs.Common.{◌≡◌, ℕ, Bool, true, false, List, [], ◌∷◌, Option, Some, None, refl, sym, ap, ◌∙◌, subst, inl, inr, arith, ◌==◌, not, ◌&&◌, ◌||◌}, specs.List.{list_all, list_any}}
-use Rattle.std.proofs.lemmas.Bool.{eqb-true, Decides.nat_tests}
+use Rattle.std.{proofs.Common.{◌≡◌, ℕ, Bool, true, false, List, [], ◌∷◌, Option, Some, None, refl, sym, ap, ◌∙◌, subst, inl, inr, ◌==◌, not, ◌&&◌, ◌||◌}, specs.List.{list_all, list_any}}
+use Rattle.std.proofs.lemmas.Bool.{eqb-true}
 use Rattle.lists.proofs.TestLaws.{both_are_true}
 use Rattle.jvm_types.specs.{Numbers.has_number, declared.{outcome.{End.End, Thrown.Thrown}, program.Program.Program}}
 use Rattle.machine_types.specs.{Agreement.{has_wait_bit, LimitFits, IsWaiter, IsTurning, EndingFits, frames_shown, roots_shown, StatusFits, ThreadFits}, Elision.put_back, HeldMonitors.held_at}

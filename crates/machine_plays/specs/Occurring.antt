@@ -1,6 +1,7 @@
 -- Which phases and which instructions occur in worked runs.
 use Rattle.std.specs.Prelude.{◌≡◌, ◌==◌, ℕ, zero, suc, pos, true, false, Bool, List, [], ◌∷◌, map}
-use Rattle.std.specs.Prelude.{replicate, slice_get, slice_set, Option, Some, None}
+use Rattle.std.specs.Prelude.{filter, length, replicate, slice_get, slice_set}
+use Rattle.std.specs.Prelude.{is_some, Option, Some, None}
 use Rattle.jvm_types.specs.CodeTable.{opcode, form_of, Form, Plain, Byte, Short, SignedByte}
 use Rattle.jvm_types.specs.CodeTable.{SignedShort, Branch, WideBranch, LocalAndStep, IntArray}
 use Rattle.jvm_types.specs.CodeTable.{Table, Lookup}
@@ -129,6 +130,11 @@ abbrev pub AllPhasesOccur : Type 0
 AllPhasesOccur =
     seen_in phases_at (runs.fought_grows ∷ runs.fought_stays_flat ∷ runs.elements_throw
     ∷ runs.waiters_wake ∷ runs.deep_waiters_wake ∷ []) (replicate 25 false) ≡ replicate 25 true
+
+-- the table of instructions has as many opcodes as are counted beside the runs
+abbrev pub OpcodesAreCounted : Type 0
+OpcodesAreCounted =
+    length (filter (λ b. is_some (form_of b)) (numbers_from 0 256)) ≡ instructions.opcode_count
 
 abbrev pub AllInstructionsOccur : Type 0
 AllInstructionsOccur =

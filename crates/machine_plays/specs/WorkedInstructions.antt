@@ -1,6 +1,6 @@
 -- Worked runs that go through the instructions, each beside its program: one that is not in them
 -- yet gets its lines and its print here.
-use Rattle.std.specs.Prelude.{pos, negsuc, List, [], ◌∷◌, Some, None, codes}
+use Rattle.std.specs.Prelude.{ℕ, pos, negsuc, List, [], ◌∷◌, Some, None, codes}
 use Rattle.jvm_types.specs.declared.code.Op.TheVariants as ops
 use Rattle.jvm_types.specs.declared.stack_move.StackMove.TheVariants.{Dup2, DupX1, DupX2, Pop2}
 use Rattle.jvm_types.specs.declared.stack_move.StackMove.TheVariants.{Swap}
@@ -12,6 +12,10 @@ use Rattle.machine_plays.specs.Writing.{InstructionLine, plain_line, line_to, pl
 use Rattle.machine_plays.specs.Writing.{usual, report, print_of, printed_by}
 use Rattle.machine_plays.specs.WorkedAlone.{init_only}
 use Rattle.machine_plays.specs.WorkedRuns.{Run, run, comes_to}
+
+-- how many opcodes the table of instructions has (JVMS 6.5)
+abbrev pub opcode_count : ℕ
+opcode_count = 94
 
 -- ---- ints
 

@@ -4,6 +4,7 @@
 #![tactic(auto)]
 
 ghost use Rattle.machine_plays.specs.Occurring.{AllInstructionsOccur, AllPhasesOccur};
+ghost use Rattle.machine_plays.specs.Occurring.{OpcodesAreCounted};
 
 /// Each phase of a thread occurs in five of the runs.
 pub fn all_phases_occur()
@@ -13,4 +14,9 @@ pub fn all_phases_occur()
 /// Each instruction (JVMS 6.5) is made in five of the runs.
 pub fn all_instructions_occur()
     ensures { AllInstructionsOccur }
+{}
+
+/// The table of instructions has `opcode_count` opcodes.
+pub fn opcodes_are_counted()
+    ensures { OpcodesAreCounted }
 {}
