@@ -10,14 +10,11 @@ use Rattle.machine_types.specs.{Settings.AreSettings, Threads.{Attempt, Frame, T
 use Rattle.laws_threads.specs.{InsideEffects.InsideMayDo, InsideMoves.ElementsInside}
 use Rattle.laws_states.{specs.{RunFacts.HaveWidth, StateLaws.{ProgramsKeepThreads, RunsHaveState, IsInState}}, proofs.WordViews.lock_of_word}
 use Rattle.laws_objects.proofs.ThrownInits.{moved_is}
-use Rattle.laws_refinement.specs.{Entries.{failed_here, KeepsCount}, EntryLaws.{ThreadsKeepCount, FewFail, IsAttemptDue, HasBegunAttempt, DueBegin, BegunAreDue, AttemptsStay, AttemptsOnlyLook}}
+use Rattle.laws_refinement.specs.{Entries.{failed_here, KeepsCount}, EntryLaws.{ThreadsKeepCount, IsAttemptDue, HasBegunAttempt, DueBegin, BegunAreDue, AttemptsStay, AttemptsOnlyLook}}
 use Rattle.laws_refinement.proofs.{Inside.{Inside, is_inside}, Looks.only_looks, MarkedEntries.{at_mark, enters_by_mark}, OutsideEntries.{Begins, MovesTo, outside_moves}}
 use Rattle.laws_refinement.proofs.Within.{HasFate, inside_moves}
 use Rattle.machine_types.specs.declared.lock.LockWord.TheVariants as locks
 use Rattle.machine_types.specs.declared.phase.Phase.TheVariants as phases
-
-pub few_fail : ThreadsKeepCount → FewFail
-few_fail counted c cfg hs t marked width settings = (counted c cfg hs t marked width settings).few
 
 -- ---- the lock word of an entry
 
@@ -26,9 +23,7 @@ claims_none : (x : Thread) (m : ℕ) → x.attempt ≡ None → held_at x.held m
 claims_none x m outside not_held = ap (λ (h : Option Held). claim_by m h x.attempt) not_held ∙ ap (claim_by m None) outside
 
 wants_load : (c : MarkedProgram) (x : Thread) (m tried : ℕ) → x.phase ≡ phases.Enter m tried → x.attempt ≡ None → held_at x.held m ≡ None → wanted c x x.phase ≡ Some (Load m)
-wants_load c x m tried enters outside not_held =
-    ap (λ (phase : Phase). wanted c x phase) enters
-    ∙ ap (λ (q : Claim). enter_wants m q) (claims_none x m outside not_held)
+wants_load c x m tried enters outside not_held = ap (λ (phase : Phase). wanted c x phase) enters ∙ ap (λ (q : Claim). enter_wants m q) (claims_none x m outside not_held)
 
 at_entry : (c : MarkedProgram) (s : Core) (x : Thread) (m tried : ℕ) → x.phase ≡ phases.Enter m tried → x.attempt ≡ None → held_at x.held m ≡ None → found_by s.words (wanted c x x.phase) ≡ slice_index s.words m
 at_entry c s x m tried enters outside not_held = ap (found_by s.words) (wants_load c x m tried enters outside not_held)
@@ -39,9 +34,8 @@ free_word word count e = by_kind (word % 4) (word / 4) refl refl e
   where
     by_kind : (kind upper : ℕ) → word % 4 ≡ kind → word / 4 ≡ upper → lock_by kind upper ≡ locks.Free count → word ≡ 4 * count
     by_kind zero upper k u f = let same : upper ≡ count = cc in omega (arith, k, u, same)
-    by_kind (suc zero) upper k u f = absurd (cc)
     by_kind (suc (suc zero)) upper k u f = absurd (cc)
-    by_kind (suc (suc (suc kind))) upper k u f = absurd (cc)
+    by_kind kind upper k u f = absurd (cc)
 
 -- a thread that keeps how many attempts have failed since it came to its entry
 record Entering : Type 0 where
@@ -81,8 +75,7 @@ module _ (entering : Entering) (m count : ℕ) (due : IsAttemptDue entering.c en
   same_count = tried_are entering m due.tried due.enters due.outside
 
   may : may_try c x due.tried ≡ true
-  may =
-      both_true (x.cfg.elide && nat_lt due.tried 2) (enters_marked c x.frames)
+  may = both_true (x.cfg.elide && nat_lt due.tried 2) (enters_marked c x.frames)
       (both_true x.cfg.elide (nat_lt due.tried 2) (ap (λ (k : Config). k.elide) settings ∙ due.elides) (lt-ltb due.tried 2 (subst (λ (n : ℕ). n < 2) (sym same_count) due.few))) marked_there
 
   loads : wanted c x x.phase ≡ Some (Load m)
@@ -91,10 +84,9 @@ module _ (entering : Entering) (m count : ℕ) (due : IsAttemptDue entering.c en
   begun_at : (fs : List Frame) → x.frames ≡ fs → HasBegunAttempt c x (begins x fs m count (due.tried + 1)) failed m count
   begun_at [] e = let bad : false ≡ true = subst (λ (gs : List Frame). enters_marked c gs ≡ true) e marked_there in absurd (cc)
   begun_at (f ∷ below) e =
-      let new : Attempt = record { monitor = m; noted = count; base = length below; number = due.tried + 1; inner = 0; entry = f } in
       record {
         loads = loads;
-        attempt = new;
+        attempt = record { monitor = m; noted = count; base = length below; number = due.tried + 1; inner = 0; entry = f };
         is = refl;
         monitor = refl;
         noted = refl;
@@ -113,8 +105,7 @@ module _ (entering : Entering) (m count : ℕ) (due : IsAttemptDue entering.c en
   moves = by_found (found_by s.words (wanted c x x.phase)) (ap lock_of (at_entry c s x m due.tried due.enters due.outside due.not_held ∙ due.is_free) ∙ lock_of_word (locks.Free count))
     where
       by_found : (got : ℕ) → lock_of got ≡ locks.Free count → moved c x x.phase got ≡ begins x x.frames m count (due.tried + 1)
-      by_found got free =
-          ap (λ (phase : Phase). moved c x phase got) due.enters
+      by_found got free = ap (λ (phase : Phase). moved c x phase got) due.enters
           ∙ ap (λ (q : Claim). enter_moves x m due.tried (may_try c x due.tried) q got) (claims_none x m due.outside due.not_held)
           ∙ ap (λ (b : Bool). enter_moves x m due.tried b HasNot got) may
           ∙ ap (tries x m due.tried) free
@@ -137,7 +128,6 @@ module _ (entering : Entering) (y : Thread) (a : Attempt) (outside : entering.x.
   was_due b =
       let elides_few = both_are_true (x.cfg.elide && nat_lt b.tried 2) (enters_marked c x.frames) b.may in
       let elides = both_are_true x.cfg.elide (nat_lt b.tried 2) elides_few.0 in
-      let same : b.tried ≡ failed = tried_are entering a.monitor b.tried b.enters outside in
       record {
         tried = b.tried;
         enters = b.enters;
@@ -145,7 +135,7 @@ module _ (entering : Entering) (y : Thread) (a : Attempt) (outside : entering.x.
         elides = ap (λ (k : Config). k.elide) (sym settings) ∙ elides.0;
         not_held = b.not_held;
         outside = outside;
-        few = subst (λ (n : ℕ). n < 2) same (ltb-true b.tried 2 elides.1);
+        few = subst (λ (n : ℕ). n < 2) (tried_are entering a.monitor b.tried b.enters outside) (ltb-true b.tried 2 elides.1);
         is_free = sym (at_entry c s x a.monitor b.tried b.enters outside b.not_held) ∙ free_word (found_by s.words (wanted c x x.phase)) a.noted b.is_free;
         not_last = subst (λ (k : Config). a.noted < k.range) settings (ltb-true a.noted x.cfg.range b.not_last);
       }
@@ -155,9 +145,7 @@ begun_are_due runs parts counted c cfg hs t x y a marked width settings here the
     let s : Core = core c cfg hs in
     let got : ℕ = found_by s.words (wanted c x x.phase) in
     let z : Thread = moved c x x.phase got in
-    let same : z ≡ y = moved_is c s t x y here there in
-    let tries : z.attempt ≡ Some a = ap (λ (k : Thread). k.attempt) same ∙ begins in
-    let begun : Begins c x z got a = subst (MovesTo c x z got) tries (outside_moves c x got outside x.phase refl) in (
+    let begun : Begins c x z got a = subst (MovesTo c x z got) (ap (λ (k : Thread). k.attempt) (moved_is c s t x y here there) ∙ begins) (outside_moves c x got outside x.phase refl) in (
       was_due (entering_at runs parts counted c cfg hs t x marked width settings here) z a outside begun,
       wants_load c x a.monitor begun.tried begun.enters outside begun.not_held,
     )

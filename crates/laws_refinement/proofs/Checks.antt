@@ -3,7 +3,7 @@ use Rattle.std.proofs.Common.{◌≡◌, ℕ, nat_lt, Bool, true, false, cond, O
 use Rattle.jvm_types.specs.declared.{outcome.Thrown.TheVariants.ArrayIndexOutOfBoundsException, program.Program.Program}
 use Rattle.checked_program.specs.MarkedProgram.{MarkedProgram}
 use Rattle.machine_types.specs.{Elision.{fails, if_same, is_checked, is_same}, Frames.Top, Going.{goes_on, goes_on_if, with_phase}, History.{Fate, GoesOn, Fails, fate_by}, Instructions.{did, instructed}}
-use Rattle.machine_types.specs.{Ints.low, Onward.{done, threw}, Threads.{Attempt, Thread}, Words.{header_length, value_word}, declared.effect.Effect.{Effect, TheVariants.{Throws, Writes, Indexes, Makes, Prints, Waits, Notifies, NotifiesAll}}}
+use Rattle.machine_types.specs.{Ints.low, Onward.{done, threw}, Threads.{Attempt, Thread}, Words.{header_length, value_word}, declared.effect.Effect.{Effect, TheVariants.{Throws, Indexes}}}
 use Rattle.laws_threads.specs.InsideEffects.{MayDo}
 use Rattle.machine_types.specs.declared.phase.Phase.TheVariants as phases
 
@@ -24,11 +24,4 @@ pub did_by : (P : Thread → Type 0) (c : MarkedProgram) (m : ℕ) (z : Thread) 
 did_by P c m z at got comes goes (Indexes array index None) may =
     elim (nat_lt (low index) (header_length got)) as (λ (b : Bool). P (cond b (with_phase z (phases.Element (value_word array (low index)) None)) (goes_on z (threw ArrayIndexOutOfBoundsException at))))
     [ true ↦ comes (value_word array (low index)) | false ↦ goes (Throws ArrayIndexOutOfBoundsException) 0 ]
-did_by P c m z at got comes goes (Writes v word) may = absurd may
-did_by P c m z at got comes goes (Indexes array index (Some v)) may = absurd may
-did_by P c m z at got comes goes (Makes word size) may = absurd may
-did_by P c m z at got comes goes (Prints n) may = absurd may
-did_by P c m z at got comes goes (Waits n) may = absurd may
-did_by P c m z at got comes goes (Notifies n) may = absurd may
-did_by P c m z at got comes goes (NotifiesAll n) may = absurd may
-did_by P c m z at got comes goes e may = goes e got
+did_by P c m z at got comes goes e may = first_of (assumption, search)

@@ -25,10 +25,8 @@ module _ (p : Program) (at : Top) (got m : ℕ) (fs : List Frame) where
 module _ (c : MarkedProgram) (x : Thread) (got : ℕ) (at : Top) (m : ℕ) (fs : List Frame) (is_run : x.phase ≡ Run) (top : top_of c.program x.frames ≡ Some at) where
   to_enter : done c.program at (effect_at c.program at) got ≡ Some (Entering m fs) → ((a : Attempt) → x.attempt ≡ Some a → fate c x a x.phase got ≡ Fails → ⊥) → IsToEnter x (moved c x x.phase got) m fs
   to_enter comes never =
-      let moves : moved c x x.phase got ≡ goes_on (begun x) (Entering m fs) =
-      ap (λ (phase : Phase). moved c x phase got) is_run
-      ∙ ap (λ (o : Option Top). ran c.program x o got) top
-      ∙ instructed_goes c.program at got m fs x (effect_at c.program at)
+      let moves : moved c x x.phase got ≡ goes_on (begun x) (Entering m fs) = ap (λ (phase : Phase). moved c x phase got) is_run
+      ∙ ap (λ (o : Option Top). ran c.program x o got) top ∙ instructed_goes c.program at got m fs x (effect_at c.program at)
       (λ a tries failed. never a tries (ap (λ (phase : Phase). fate c x a phase got) is_run ∙ ap (λ (o : Option Top). run_fate c a o got) top ∙ failed))
       ∙ did_enter c.program at got m fs (begun x) (effect_at c.program at) comes in
       subst (λ (y : Thread). IsToEnter x y m fs) (sym moves) (record { enters = refl; frames = refl; turns = refl; held = refl; attempt = refl })
@@ -36,5 +34,4 @@ module _ (c : MarkedProgram) (x : Thread) (got : ℕ) (at : Top) (m : ℕ) (fs :
 pub instructions_enter : InstructionsEnter
 instructions_enter c cfg hs t x y at m fs here there is_run top comes never =
     let s : Core = core c cfg hs in
-    subst (λ (z : Thread). IsToEnter x z m fs) (moved_is c s t x y here there)
-    (to_enter c x (found_by s.words (wanted c x x.phase)) at m fs is_run top comes never)
+    subst (λ (z : Thread). IsToEnter x z m fs) (moved_is c s t x y here there) (to_enter c x (found_by s.words (wanted c x x.phase)) at m fs is_run top comes never)

@@ -1,5 +1,5 @@
 -- What a thread keeps of how many of its attempts failed at an entry agrees with what its events tell, whatever its next event is.
-use Rattle.std.proofs.{Common.{◌≡◌, ℕ, ◌+◌, ◌<◌, ◌≤◌, nat_lt, Bool, true, false, Option, Some, None, refl, sym, ap, ◌∙◌, subst, arith, ◌&&◌, if◌then◌else◌}, lemmas.Bool.{ltb-true}}
+use Rattle.std.proofs.{Common.{◌≡◌, ℕ, ◌+◌, ◌<◌, ◌≤◌, nat_lt, Bool, false, Option, Some, None, refl, sym, ap, ◌∙◌, subst, arith, ◌&&◌, if◌then◌else◌}, lemmas.Bool.{ltb-true, Decides.nat_tests}}
 use Rattle.lists.proofs.TestLaws.{both_are_true}
 use Rattle.checked_program.specs.MarkedProgram.{MarkedProgram}
 use Rattle.machine_types.specs.{Elision.enters_marked, Events.moved, History.{Fate, GoesOn, Fails, Finishes, fate}, Threads.{Attempt, Thread}, declared.phase.Phase.{Phase, TheVariants.Enter}}
@@ -21,11 +21,6 @@ comes_new : (was now : Phase) (failed : ℕ) → ComesNew was now → KeepsCount
 comes_new was (Enter m tried) failed k = subst (λ (phase : Phase). tried ≡ (if comes_to_enter phase (Enter m tried) then 0 else failed)) (sym k.0) k.1
 comes_new was now failed k = tt
 
-none_more : (b : Bool) (failed : ℕ) → failed ≤ 2 → (if b then 0 else failed) ≤ 2
-none_more true failed few = omega arith
-none_more false failed few = few
-
--- fewer have been tried than may
 module _ (c : MarkedProgram) (x y : Thread) (got failed : ℕ) where
   -- of the attempt that begins
   begins_counted : (a : Attempt) → Begins c x y got a → KeepsCount None x.phase failed → KeepsCount (Some a) y.phase failed
@@ -36,13 +31,13 @@ module _ (c : MarkedProgram) (x y : Thread) (got failed : ℕ) where
 
   outside_counted : (o : Option Attempt) → y.attempt ≡ o → MovesTo c x y got o → KeepsCount None x.phase failed → failed ≤ 2 → Counts y (if comes_to_enter x.phase y.phase then 0 else failed)
   outside_counted None e new kept few = record {
-    few = none_more (comes_to_enter x.phase y.phase) failed few;
+    few = grind (arith, nat_tests, few);
     kept = subst (λ (o : Option Attempt). KeepsCount o y.phase (if comes_to_enter x.phase y.phase then 0 else failed)) (sym e) (comes_new x.phase y.phase failed new.0);
   }
   outside_counted (Some a) e b kept few =
       let stays : comes_to_enter x.phase y.phase ≡ false = subst (λ (phase : Phase). comes_to_enter phase y.phase ≡ false) (sym b.enters) refl in
       record {
-        few = none_more (comes_to_enter x.phase y.phase) failed few;
+        few = grind (arith, nat_tests, few);
         kept = subst (λ (o : Option Attempt). KeepsCount o y.phase (if comes_to_enter x.phase y.phase then 0 else failed)) (sym e)
             (subst (λ (b : Bool). KeepsCount (Some a) y.phase (if b then 0 else failed)) (sym stays) (begins_counted a b kept));
       }

@@ -67,8 +67,7 @@ module _ (c : MarkedProgram) (s : Core) (t : ℕ) (x : Thread) (a : Attempt) (th
       ap (λ (phase : Phase). moved c x phase got) d.leaves
       ∙ ap (λ (k : Claim). leave_moves c.program x a.monitor d.after_it k got) d.claims
       ∙ ap (λ (n : ℕ). finishes c.program x d.after_it a n got) d.outermost
-      ∙ ap (λ (b : Bool). cond b (goes_after c.program (elided x) d.after_it) (fails x a)) d.same
-      ∙ ap (goes_on_if (elided x)) goes
+      ∙ ap (λ (b : Bool). cond b (goes_after c.program (elided x) d.after_it) (fails x a)) d.same ∙ ap (goes_on_if (elided x)) goes
 
   pub event_is : (o : Onward) → after c.program x.frames d.after_it ≡ Some o → event c s t ≡ record { words = s.words; threads = slice_set s.threads t (goes_on (elided x) o) }
   event_is o goes = ap (event_of c s t) there ∙ (λ i. record { words = (ap (words_after s.words) wants ∙ set_self s.words a.monitor) i; threads = slice_set s.threads t (moves o goes i) })

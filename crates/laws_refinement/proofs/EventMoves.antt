@@ -52,8 +52,7 @@ module _ (memory : InstructionsChangeMemory) (laws : AreEventLaws) (elided : Are
         let goes : IsNotFinished (fate c x a x.phase (found_of c s x)) = subst IsNotFinished (sym is) going in
         let nothing : steps_of t (shown_at c x x.attempt (found_of c s x) d) ≡ [] =
         ap (λ (o : Option Attempt). steps_of t (shown_at c x o (found_of c s x) d)) e ∙ ap (λ (g : Fate). steps_of t (shown_by g d)) is ∙ ap (steps_of t) none in
-        subst (λ (steps : List PlainStep). MovesBy c objects s t x d q steps (past_after c x x.attempt (found_of c s x) d)) (sym nothing)
-        (record {
+        subst (λ (steps : List PlainStep). MovesBy c objects s t x d q steps (past_after c x x.attempt (found_of c s x) d)) (sym nothing) (record {
           after = q;
           run = refl;
           beside = elided.under_way c cfg objects was s t x a q turns.marked turns.width turns.facts beside turns.thread e goes;
@@ -61,9 +60,11 @@ module _ (memory : InstructionsChangeMemory) (laws : AreEventLaws) (elided : Are
           prints = λ k. elided.print_nothing c cfg objects was s t x a q q turns.marked turns.facts turns.thread e refl k;
         })
 
-    -- where it finishes, the section
-    done : fate c x a x.phase (found_of c s x) ≡ Finishes → MovesIn c objects s t x d q x.attempt
-    done is =
+    by_fate : (f : Fate) → fate c x a x.phase (found_of c s x) ≡ f → MovesIn c objects s t x d q x.attempt
+    by_fate GoesOn is = under_way GoesOn is tt refl
+    by_fate Fails is = under_way Fails is tt refl
+    -- the section as a whole
+    by_fate Finishes is =
         let finish : FinishesBeside c objects s t x d q = elided.finish c cfg objects was frozen own own_after w later s t x a d q turns beside e owes is in
         record {
           after = finish.after;
@@ -73,11 +74,6 @@ module _ (memory : InstructionsChangeMemory) (laws : AreEventLaws) (elided : Are
               (ap (λ (n : ℕ). runs + n) (sym finish.instructions)) (ap (λ (n : ℕ). takes + n) (sym finish.sections));
           prints = λ k. elided.print_nothing c cfg objects was s t x a q finish.after turns.marked turns.facts turns.thread e finish.prints k;
         }
-
-    by_fate : (f : Fate) → fate c x a x.phase (found_of c s x) ≡ f → MovesIn c objects s t x d q x.attempt
-    by_fate GoesOn is = under_way GoesOn is tt refl
-    by_fate Fails is = under_way Fails is tt refl
-    by_fate Finishes is = done is
 
   pub event_moves : MovesIn c objects s t x d q x.attempt
   event_moves = (elim x.attempt as (λ (o : Option Attempt). x.attempt ≡ o → MovesIn c objects s t x d q x.attempt)

@@ -28,10 +28,9 @@ module _ (laws : AreEventLaws) (turn : Turn) (width : HaveWidth turn.cfg) where
   begins : x.phase ≡ phases.Run → StepsOf turn
   begins e =
       let lawful = facts.threads.lawful t x here in
-      let holds = subst (λ (phase : Phase). PhaseHolds c (within c.program) phase x.frames) e lawful.typed.values.phase in
       let some = (elim x.frames as (λ (frames : List Frame). (roots : List ℕ) → FramesFit phases.Run frames roots → 0 < length frames)
       [ [] ↦ λ roots f. absurd f | f ∷ frames ↦ λ roots k. omega arith ]) x.roots (subst (λ (phase : Phase). FramesFit phase x.frames x.roots) e lawful.rooted.frames) in
-      let stands : Begun c.program x.frames = frames_stand c x.frames marked holds some in
+      let stands : Begun c.program x.frames = frames_stand c x.frames marked (subst (λ (phase : Phase). PhaseHolds c (within c.program) phase x.frames) e lawful.typed.values.phase) some in
       by_kind stands (kind_of (effect_at c.program stands.at))
     where
       by_effect : (Kind : Effect → Type 0) → StepsWhere (IsAtEffect Kind) → (b : Begun c.program x.frames) → Kind (effect_at c.program b.at) → StepsOf turn

@@ -17,9 +17,7 @@ other_lives c s t u n (Some x) e = ap is_live_thread (got_other s.threads t u (n
 
 pub none_wakes : (c : MarkedProgram) (s : Core) (t u : ℕ) → lives s u ≡ false → lives (event c s t) u ≡ false
 none_wakes c s t u dead = elim (cases_Bool (u == t)) [
-  | inl e ↦
-      let same : u ≡ t = grind (arith, nat_tests, e) in
-      ap (λ (r : Core). lives r u) (only_live_change c s t (ap (lives s) (sym same) ∙ dead)) ∙ dead
+  | inl e ↦ ap (λ (r : Core). lives r u) (only_live_change c s t (ap (lives s) (sym (grind (arith, nat_tests, e))) ∙ dead)) ∙ dead
   | inr e ↦ other_lives c s t u (λ same. let no : ⊥ = grind (arith, nat_tests, e, same) in no) (slice_get s.threads t) refl ∙ dead
 ]
 

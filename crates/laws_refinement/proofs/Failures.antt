@@ -28,8 +28,7 @@ module _ (may_do : InsideMayDo) (elements : ElementsInside) (runs : RunsHaveStat
   attempts_end c cfg hs t x y a marked width settings here there tries =
       let got : ℕ = found_by (core c cfg hs).words (wanted c x x.phase) in
       let inside : Inside c x a = in_attempt may_do elements runs parts c cfg hs t x a marked width settings here tries in
-      let z : Thread = moved c x x.phase got in
-      subst (EndsBy (fate c x a x.phase got) a) (moved_is c (core c cfg hs) t x y here there) (ends_by c x z got a (fate c x a x.phase got) (inside_moves c x a inside got))
+      subst (EndsBy (fate c x a x.phase got) a) (moved_is c (core c cfg hs) t x y here there) (ends_by c x (moved c x x.phase got) got a (fate c x a x.phase got) (inside_moves c x a inside got))
 
   pub failures_put_back : FailuresPutBack
   failures_put_back c cfg hs t x y a marked width settings here there tries fails =

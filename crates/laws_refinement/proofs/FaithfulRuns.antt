@@ -1,10 +1,9 @@
 -- A run stands for a plain run, event by event, with the objects that are under construction and with what is due of attempts.
-use Rattle.std.proofs.Common.{◌≡◌, ◌≢◌, ℕ, ◌+◌, Bool, true, false, List, [], ◌∷◌, ◌++◌, length, Option, Some, None, refl, sym, ap, ◌∙◌, subst, arith, append_assoc, ◌==◌, replicate, slice_get, slice_set, slice_index, slice_index_or, if◌then◌else◌}
+use Rattle.std.proofs.Common.{◌≡◌, ◌≢◌, ℕ, ◌+◌, Bool, true, false, List, [], ◌∷◌, ◌++◌, length, Option, Some, None, refl, sym, ap, ◌∙◌, subst, arith, append_assoc, ◌==◌, replicate, slice_get, slice_set, slice_index_or, if◌then◌else◌}
 use Rattle.std.{proofs.lemmas.{Bool.Decides.{nat_tests, Decides-eqb}, List.{append-nil, get_or-set_other, get_or-set_same, length-replicate, length-set}, Option.slice_get_within}}
 use Rattle.lists.proofs.ListLaws.{same_some}
-use Rattle.jvm_types.specs.declared.fixed_words.TheConstants.{NEXT_FREE_WORD}
 use Rattle.checked_program.specs.MarkedProgram.{MarkedProgram, IsMarked}
-use Rattle.machine_types.specs.{Attempts.{Stays, IsLedToPresent, OwesNothing, Owes, Attempts}, Construction.{AreFrozen, AreOwned, Construction, Owning}}
+use Rattle.machine_types.specs.{Attempts.{OwesNothing, Owes, Attempts}, Construction.{AreFrozen, AreOwned, Construction, Owning}}
 use Rattle.machine_types.specs.Core.{Core, Happening, Of, NextPart, start, event, event_of, may_begin, next, all_happened, core, outcome}
 use Rattle.machine_types.specs.{Counting.{run_at, take_at, count_along, CountsFit, AreCounted}, Events.moved, Facts.FactsBeside, Faithful.{EndsFit, PrintsFit, IsSilent, IsFaithful}}
 use Rattle.machine_types.specs.History.{Past, no_past, Told, told_start, past_after, pasts_after, told, all_told, shown_at, steps_of, shown_of, shown, shadow_from, shadow, past}
@@ -42,14 +41,10 @@ record Shadowed (c : MarkedProgram) (cfg : Config) (frozen owned : ℕ → Bool)
   prints : PrintsFit (outcome s) state
   keep_none : WorkersKeepNone s.threads
 
--- ---- what is due, outside attempts and over the same words
+-- ---- what is due outside attempts
 
 owes_none : (c : MarkedProgram) (stores : Stores) (objects : List Object) (w : World) (s : Core) (t : ℕ) (was : Phase) (x : Thread) (o : Option Attempt) (d : Past) → o ≡ None → OwesNothing d → Owes c stores objects w s t was x o d
 owes_none c stores objects w s t was x o d e k = subst (λ (a : Option Attempt). Owes c stores objects w s t was x a d) (sym e) k
-
-owes_over : (c : MarkedProgram) (stores : Stores) (objects : List Object) (w : World) (s r : Core) (t : ℕ) (was : Phase) (x : Thread) (o : Option Attempt) (d : Past) → r.words ≡ s.words → Owes c stores objects w s t was x o d → Owes c stores objects w r t was x o d
-owes_over c stores objects w s r t was x None d e k = k
-owes_over c stores objects w s r t was x (Some a) d e k = (k.0, subst (λ (words : List ℕ). IsLedToPresent c (Stays c stores objects w (slice_index words NEXT_FREE_WORD) t a.monitor) words was x a d) (sym e) k.1)
 
 -- the laws that a run follows from, and what it begins with
 record Beginning : Type 0 where
@@ -88,15 +83,13 @@ module _ (beginning : Beginning) where
     abbrev more : List PlainStep
     more = steps_of t (shown_at c x x.attempt (found_of c s x) (slice_index_or pasts t no_past))
 
-    builds : BuildsOn c l.objects l.was s t frozen
-        (owning l.stores) l.world
+    builds : BuildsOn c l.objects l.was s t frozen (owning l.stores) l.world
     builds = elided.events_built c cfg l.objects l.was s t frozen (owning l.stores) l.world marked width l.facts l.built
 
     facts_after : StateFacts c cfg (objects_after c.program s t l.objects) (counted_after c l.was s t) (event c s t)
     facts_after = laws.events_state c cfg l.objects l.was s t marked width l.facts
 
-    turns : EventStands c cfg l.objects l.was frozen (owning l.stores)
-        (owning builds.stores) l.world builds.later s t x
+    turns : EventStands c cfg l.objects l.was frozen (owning l.stores) (owning builds.stores) l.world builds.later s t x
     turns = record {
       marked = marked;
       width = width;
@@ -131,11 +124,7 @@ module _ (beginning : Beginning) where
 
     -- the pasts then: one is new
     past_here : slice_index_or (slice_set pasts t past_now) t no_past ≡ past_now
-    past_here =
-        let within = slice_get_within s.threads t x there in
-        let count = l.facts.threads.count in
-        let many = l.many in
-        get_or-set_same pasts t past_now no_past (omega (arith, within, count, many))
+    past_here = get_or-set_same pasts t past_now no_past (omega (arith, slice_get_within s.threads t x there, l.facts.threads.count, l.many))
 
     past_other : (u : ℕ) → (u == t) ≡ false → slice_index_or (slice_set pasts t past_now) u no_past ≡ slice_index_or pasts u no_past
     past_other u e = get_or-set_other pasts t u past_now no_past (apart u t e)
@@ -149,21 +138,17 @@ module _ (beginning : Beginning) where
     counted_here : counted t now
     counted_here =
         let q = plain_start c.program in
-        let runs = count_on c.program (run_at t) steps more q l.state l.run in
         let takes = count_on c.program (take_at t) steps more q l.state l.run in
         let k = moves.counts (count_along c.program (run_at t) steps q) (count_along c.program (take_at t) steps q) (l.counts t x there) in
-        subst (λ (p : Past). Counted c (steps ++ more) t now p) (sym past_here) (recounted now k (sym runs) (sym takes))
+        subst (λ (p : Past). Counted c (steps ++ more) t now p) (sym past_here) (recounted now k (sym (count_on c.program (run_at t) steps more q l.state l.run)) (sym takes))
 
     counted_other : (u : ℕ) (z : Thread) → (u == t) ≡ false → slice_get s.threads u ≡ Some z → counted u z
     counted_other u z e f =
         let q = plain_start c.program in
-        let k = l.counts u z f in
         let nothing = others_are_not_counted c.program t u (shown_at c x x.attempt (found_of c s x) (slice_index_or pasts t no_past)) l.state (apart u t e) in
         let runs = count_on c.program (run_at u) steps more q l.state l.run in
         let takes = count_on c.program (take_at u) steps more q l.state l.run in
-        let no_runs : count_along c.program (run_at u) more l.state ≡ 0 = nothing.runs in
-        let no_takes : count_along c.program (take_at u) more l.state ≡ 0 = nothing.takes in
-        subst (λ (p : Past). Counted c (steps ++ more) u z p) (sym (past_other u e)) (recounted z k (omega (arith, runs, no_runs)) (omega (arith, takes, no_takes)))
+        subst (λ (p : Past). Counted c (steps ++ more) u z p) (sym (past_other u e)) (recounted z (l.counts u z f) (omega (arith, runs, nothing.runs)) (omega (arith, takes, nothing.takes)))
 
     goes_on : Follows (event c s t) (slice_set pasts t past_now) (steps ++ more)
     goes_on = record {
@@ -206,7 +191,8 @@ module _ (beginning : Beginning) where
         let there : slice_get s.threads t ≡ Some z = ap (λ (threads : List Thread). slice_get threads t) (sym (same_threads c.program s.threads may)) ∙ e in
         let counted : counted_next c l.was s t ≡ l.was t = ap (λ (b : Bool). if b then counted_of (l.was t) (slice_get (next c s).threads t) else l.was t) may in (
           subst (λ (phase : Phase). Owes c l.stores l.objects l.world (next c s) t phase z z.attempt (slice_index_or pasts t no_past)) (sym counted)
-              (owes_over c l.stores l.objects l.world s (next c s) t (l.was t) z z.attempt (slice_index_or pasts t no_past) refl (l.owes t z there)),
+              ((elim z.attempt as (λ (o : Option Attempt). Owes c l.stores l.objects l.world s t (l.was t) z o (slice_index_or pasts t no_past)
+              → Owes c l.stores l.objects l.world (next c s) t (l.was t) z o (slice_index_or pasts t no_past)) [ None ↦ λ k. k | Some a ↦ λ k. k ]) (l.owes t z there)),
           l.counts t z there,
         )
 

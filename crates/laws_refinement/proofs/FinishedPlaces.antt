@@ -32,9 +32,7 @@ module _ (differ : SitesDiffer) (states : States) (stores : Stores) (w : World) 
       subst (λ (n : ℕ). value_at q n ≡ Some (slice_index s.words n)) (sym place) (value_found differ c objects s q marked facts.heap beside (HeaderOf o.reference) tt (o, there, refl))
   staying_value m x (frozen fi o field at) = field_value fi x o field.field field.is field.instance at
   staying_value m x (guarded fi o field on at) = field_value fi x o field.field field.is field.instance at
-  staying_value m x (element fi o owned there on k) =
-      subst (λ (n : ℕ). value_at q n ≡ Some (slice_index s.words n)) (sym k.place)
-      (value_found differ c objects s q marked facts.heap beside
+  staying_value m x (element fi o owned there on k) = subst (λ (n : ℕ). value_at q n ≡ Some (slice_index s.words n)) (sym k.place) (value_found differ c objects s q marked facts.heap beside
       (ValueOf k.array.reference k.index) tt (k.array, k.there, refl, k.inside))
   staying_value m x (frozen_static fi field place) = static_value fi x field.field field.is field.static place
   staying_value m x (guarded_static fi field on place) = static_value fi x field.field field.is field.static place

@@ -38,9 +38,7 @@ module _ (differ : SitesDiffer) (player : Player) (d : IsDone player.x player.a 
 
   monitor_object : HasObject objects a.monitor
   monitor_object =
-      let typed = facts.heap.typed.threads t x there in
-      let holds : AttemptHolds c (HasClass objects) x.frames (Some a) = subst (λ (o : Option Attempt). AttemptHolds c (HasClass objects) x.frames o) tries typed.attempt in
-      let object = holds.0.1 in
+      let object = (subst (λ (o : Option Attempt). AttemptHolds c (HasClass objects) x.frames o) tries (facts.heap.typed.threads t x there).attempt).0.1 in
       (object.0, object.1, object.2)
 
   lock_is : lock_at (references_of objects) s.words a.monitor ≡ Free a.noted
@@ -149,10 +147,9 @@ module _ (differ : SitesDiffer) (player : Player) (d : IsDone player.x player.a 
 
 pub sections_finish : SitesDiffer → SectionsFinish
 sections_finish differ c cfg objects was frozen own after w later s t x a d q k beside tries owes ends_so =
-    let done = is_done c x a x.phase (found_of c s x) tries ends_so in
     let player : Player = record {
       member = record { states = record { c = c; cfg = cfg; objects = objects; was = was; s = s; q = q; marked = k.marked; facts = k.facts; beside = beside }; t = t; x = x; here = k.thread };
       a = a;
       tries = tries;
     } in
-    finishes_beside differ player done d own.stores w owes ends_so
+    finishes_beside differ player (is_done c x a x.phase (found_of c s x) tries ends_so) d own.stores w owes ends_so

@@ -48,7 +48,6 @@ module _ (c : MarkedProgram) (x : Thread) (m n got : ℕ) (last : n < x.cfg.rang
     stays : WasNoted got
     stays e = e
 
-    -- the monitor of the access
     -- ---- an instruction looks at it
 
     effect_leaves : (pc : ℕ) (target : Target) (e : Effect) → effect_wants x pc e ≡ Some access → Suits (effect_content c.program target e) (LockOf m) → WasNoted (left_by access got)
@@ -61,17 +60,15 @@ module _ (c : MarkedProgram) (x : Thread) (m n got : ℕ) (last : n < x.cfg.rang
     -- ---- the monitor is entered or left
 
     entry_leaves : (n : ℕ) (claimed : Claim) → enter_wants n claimed ≡ Some access → WasNoted (left_by access got)
-    entry_leaves n (Has h) w = no_access WasNoted access got stays w
-    entry_leaves n (Tries a) w = no_access WasNoted access got stays w
     entry_leaves n HasNot w = loaded WasNoted access got stays n w
+    entry_leaves n claimed w = no_access WasNoted access got stays w
 
     -- what is kept of a monitor whose word is accessed
     freed_of : (b count : ℕ) (h : Held) → held_at x.held b ≡ Some h → h.kept ≡ keeps.Flat count → b ≡ m → freed x count ≢ word_of_lock (locks.Free n)
     freed_of b count h e k same = freed_later x count n (kept h count (ap (held_at x.held) (sym same) ∙ e) k) last
 
     release_leaves : (b : ℕ) (h : Held) (k : Kept) → held_at x.held b ≡ Some h → h.kept ≡ k → Some (release x b k) ≡ Some access → Suits (leave_content (Has (record h { kept = k }))) (LockOf m) → WasNoted (left_by access got)
-    release_leaves b h (keeps.Flat count) e k w suits =
-        leaves WasNoted access got stays (release x b (keeps.Flat count)) w (swapped (word_of_lock (locks.Held x.number)) (freed x count)
+    release_leaves b h (keeps.Flat count) e k w suits = leaves WasNoted access got stays (release x b (keeps.Flat count)) w (swapped (word_of_lock (locks.Held x.number)) (freed x count)
         (freed_of b count h e k (let same : release x b (keeps.Flat count) ≡ access = cc in ap accessed same ∙ at)))
     release_leaves b h (keeps.Fat r) e k w suits = absurd suits
 
@@ -91,8 +88,7 @@ module _ (c : MarkedProgram) (x : Thread) (m n got : ℕ) (last : n < x.cfg.rang
     flat_out_leaves : (b : ℕ) (held : Option Held) → held_at x.held b ≡ held → IsFlat held → accessed access ≡ b → WasNoted (freed x (count_kept held))
     flat_out_leaves b None e flat same = absurd flat
     flat_out_leaves b (Some h) e flat same =
-        let d : freed x flat.0 ≢ word_of_lock (locks.Free n) = freed_of b flat.0 h e flat.1 (sym same ∙ at) in
-        subst (λ (k : Kept). WasNoted (freed x (count_kept (Some (record h { kept = k }))))) (sym flat.1) (never (freed x flat.0) d)
+        subst (λ (k : Kept). WasNoted (freed x (count_kept (Some (record h { kept = k }))))) (sym flat.1) (never (freed x flat.0) (freed_of b flat.0 h e flat.1 (sym same ∙ at)))
 
     -- ---- all phases
 
@@ -102,10 +98,8 @@ module _ (c : MarkedProgram) (x : Thread) (m n got : ℕ) (last : n < x.cfg.rang
     phase_leaves (phases.Throw r class) flat w suits = looked WasNoted access got stays x.attempt w
     phase_leaves (phases.Enter b tried) flat w suits = entry_leaves b _ w
     phase_leaves (phases.Acquire b) flat w suits = loaded WasNoted access got stays b w
-    phase_leaves (phases.Take b count) flat w suits =
-        leaves WasNoted access got stays _ w (swapped (word_of_lock (locks.Free count)) (word_of_lock (locks.Held x.number)) (λ e. omega (arith, e)))
-    phase_leaves (phases.Flag b u) flat w suits =
-        leaves WasNoted access got stays _ w (swapped (word_of_lock (locks.Held u)) (word_of_lock (locks.Flagged u)) (λ e. omega (arith, e)))
+    phase_leaves (phases.Take b count) flat w suits = leaves WasNoted access got stays _ w (swapped (word_of_lock (locks.Free count)) (word_of_lock (locks.Held x.number)) (λ e. omega (arith, e)))
+    phase_leaves (phases.Flag b u) flat w suits = leaves WasNoted access got stays _ w (swapped (word_of_lock (locks.Held u)) (word_of_lock (locks.Flagged u)) (λ e. omega (arith, e)))
     phase_leaves (phases.Leave b after) flat w suits = leave_leaves b (held_at x.held b) x.attempt refl w suits
     phase_leaves (phases.FlatOut b after) flat w suits =
         let same_access : (a : Access) → Some a ≡ Some access → accessed a ≡ accessed access = λ a e. let same : a ≡ access = cc in ap accessed same in

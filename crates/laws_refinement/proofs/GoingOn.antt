@@ -103,9 +103,7 @@ module _ (c : MarkedProgram) (x : Thread) (a : Attempt) (now : Phase) where
   -- and its replay comes to where it is by one act
   module _ (z : Thread) (o : Onward) (i : ℕ) (alike : GoesAlike z o) where
     pub comes_there : (status : Status) (ended : List End) (n : ℕ) → goes (record { thread = plain_as x status ended; depth = suc i; begun = n }) (Some o) ≡ Some (at_present (goes_on z o) (inner_as a i) now n ended)
-    comes_there status ended n =
-        let count : n ≡ begun_and_done now n = sym (all_done now n alike.read) in
-        (λ j. Some (let next : Alone = record { thread = alike.thread status ended j; depth = suc i; begun = count j } in next))
+    comes_there status ended n = (λ j. Some (let next : Alone = record { thread = alike.thread status ended j; depth = suc i; begun = (sym (all_done now n alike.read)) j } in next))
 
     pub grown : (Keeps : (n : ℕ) → Type 0) (words : List ℕ) (was phase : Phase) (act : Act) → was ≡ phase → z.attempt ≡ Some (inner_as a i)
         → ((memory : ℕ → Option ℕ) → Knows Keeps words memory → (n : ℕ) → IsReadBegun phase n → (ended : List End)

@@ -1,7 +1,7 @@
 -- An event keeps the fact on the attempt of its own thread.
 use Rattle.std.proofs.Common.{◌≡◌, inl, inr, ℕ, suc, List, [], ◌++◌, Option, Some, None, refl, sym, ap, ◌∙◌, subst, arith, slice_get, slice_index}
 use Rattle.machine_types.specs.{Attempts.{IsAsNoted, Owes, OwesNothing}, Core.{Core, accessed_by, event_of, event}, Events.{wanted, moved}}
-use Rattle.machine_types.specs.{History.{Fate, GoesOn, Fails, Finishes, Past, fate, acts_of, past_by, past_after}, LockWords.word_of_lock}
+use Rattle.machine_types.specs.{History.{Fate, GoesOn, Past, fate, acts_of, past_by, past_after}, LockWords.word_of_lock}
 use Rattle.machine_types.specs.{Replay.{Alone, replayed, begun_and_done, status_inside, at_entry, at_present}, Structure.{IsAs, IsStructured}, Threads.{Attempt, Thread}, Worlds.IsOwnOrFinished}
 use Rattle.machine_types.{specs.declared.{lock.LockWord.TheVariants.Free, phase.Phase.{Phase, TheVariants.Run}, plain.Act.Act}, proofs.Lists.got_when_set}
 use Rattle.laws_threads.specs.{StateLaws.counted_after, TopFrames.EffectsAreAllowed}
@@ -53,15 +53,12 @@ module _ (fit : HeapWordsFit) (allowed : EffectsAreAllowed) (its : Event) (d : P
     begins_owing : (o : Option Attempt) → MovesTo c x after got o → OwesAfter o d
     begins_owing None k = nothing
     begins_owing (Some b) k = (
-      none_begun now d.pending
-          (subst IsElementRead (sym (runs_now after.phase now k.phase structured.is_as)) tt),
+      none_begun now d.pending (subst IsElementRead (sym (runs_now after.phase now k.phase structured.is_as)) tt),
       λ noted
           memory knows ended.
           let run : plain.Run ≡ status_inside now = ap status_inside (sym (runs_now after.phase now k.phase structured.is_as)) in
           let depth : 1 ≡ suc b.inner = ap suc (sym k.inner) in
-          let begun : 0 ≡ begun_and_done now d.pending = sym nothing.pending
-          ∙ sym (all_done now d.pending (subst IsElementRead
-          (sym (runs_now after.phase now k.phase structured.is_as)) tt)) in
+          let begun : 0 ≡ begun_and_done now d.pending = sym nothing.pending ∙ sym (all_done now d.pending (subst IsElementRead (sym (runs_now after.phase now k.phase structured.is_as)) tt)) in
           ap (λ due. replayed c.program b.monitor memory due (at_entry after b ended)) nothing.due
           ∙ (λ i. Some (let next : Alone = record { thread = record { frames = k.frames i; status = run i; roots = after.roots; ended = ended }; depth = depth i; begun = begun i } in next)),
     )
@@ -91,8 +88,7 @@ module _ (fit : HeapWordsFit) (allowed : EffectsAreAllowed) (its : Event) (d : P
           ∙ replayed_more c.program a.monitor memory d.due acts (at_entry x a ended) (at_present x a (was t) d.pending ended) (owes.1 was_noted memory knows ended)
           ∙ g.replays memory knows d.pending owes.0 ended,
     )
-    by_fate Fails k = nothing_owed (past_by d x.phase acts Fails) refl refl k
-    by_fate Finishes k = nothing_owed (past_by d x.phase acts Finishes) refl refl k
+    by_fate f k = nothing_owed (past_by d x.phase acts f) refl refl k
 
   by_attempt : (o : Option Attempt) → x.attempt ≡ o → Owes c own.stores objects w s t (was t) x o d → OwesAfter after.attempt (past_after c x o got d)
   by_attempt None e k = begins_owing e k after.attempt (outside_moves c x got e x.phase refl)

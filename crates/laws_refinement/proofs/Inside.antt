@@ -44,11 +44,8 @@ pub record Inside (c : MarkedProgram) (x : Thread) (a : Attempt) : Type 0 where
 -- ---- its monitor, and its top frame
 
 tries_it : (x : Thread) (a : Attempt) (n : ℕ) → x.attempt ≡ Some a → held_at x.held a.monitor ≡ None → n ≡ a.monitor → claim x n ≡ Tries a
-tries_it x a n attempt none is =
-    ap (λ (k : ℕ). claim x k) is
-    ∙ ap (λ (o : Option Held). claim_by a.monitor o x.attempt) none
-    ∙ ap (λ (o : Option Attempt). claim_by a.monitor None o) attempt
-    ∙ ap (λ (b : Bool). cond b (Tries a) HasNot) (is_same a.monitor)
+tries_it x a n attempt none is = ap (λ (k : ℕ). claim x k) is
+    ∙ ap (λ (o : Option Held). claim_by a.monitor o x.attempt) none ∙ ap (λ (o : Option Attempt). claim_by a.monitor None o) attempt ∙ ap (λ (b : Bool). cond b (Tries a) HasNot) (is_same a.monitor)
 
 pub top_there : (c : MarkedProgram) → IsMarked c → (fs : List Frame) (shown : List ℕ) (base : ℕ) → Show c Whole fs shown → base < length fs → (at : Top) × (top_of c.program fs ≡ Some at)
 top_there c marked [] shown base show some = absurd (omega (arith, some))
@@ -86,6 +83,5 @@ module _ (may_do : InsideMayDo) (elements : ElementsInside) (c : MarkedProgram) 
 
   pub is_inside : (was : Phase) → IsStructured c was x → Inside c x a
   is_inside was k =
-      let stands = subst (λ (o : Option Attempt). Stands c was x.frames x.held o) attempt k.stands in
       let tried = subst (λ (o : Option Attempt). AttemptStandsIn c was x.frames x.held o) attempt k.attempt in
-      record { attempt = attempt; based = tried.based; known = known_at x.phase was k.is_as (stands, tried) }
+      record { attempt = attempt; based = tried.based; known = known_at x.phase was k.is_as (subst (λ (o : Option Attempt). Stands c was x.frames x.held o) attempt k.stands, tried) }

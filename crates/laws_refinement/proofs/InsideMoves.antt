@@ -145,18 +145,14 @@ module _ (steps : StepsKeepEntry) (throws : ThrowsKeepEntry) (leaves : LeavesKee
   moves_at (phases.Element word stored) k =
       let phase : Phase = phases.Element word stored in
       let made : ℕ = element_made stored got in
-      let o : Option Onward = option_map (λ at. Running (went_on c.program at made))
-      (top_of c.program x.frames) in
-      goes_inside c x a phase x (goes_on_if x o) a (same_keeps x) tried refl refl refl
-      (went_if a x o based (λ onward is. steps c.program x.frames a k.at
-      (Reads (Static 0)) made onward k.found
+      let o : Option Onward = option_map (λ at. Running (went_on c.program at made)) (top_of c.program x.frames) in
+      goes_inside c x a phase x (goes_on_if x o) a (same_keeps x) tried refl refl refl (went_if a x o based (λ onward is. steps c.program x.frames a k.at (Reads (Static 0)) made onward k.found
       (sym (ap (option_map (λ at. Running (went_on c.program at made))) k.found) ∙ is)))
   moves_at (phases.Throw r class) k =
       let phase : Phase = phases.Throw r class in
       checked (λ y fate. Moves c x y a phase fate) a x (goes_on_if x (dispatched c.program r class x.frames)) got x.attempt tried
       (goes_inside c x a phase x (goes_on_if x (dispatched c.program r class x.frames)) a (same_keeps x) tried refl refl refl
-      (went_if a x (dispatched c.program r class x.frames) based (λ onward is. throws c.program x.frames a r class onward is)))
-      (fails_inside c x a phase x (same_keeps x) refl)
+      (went_if a x (dispatched c.program r class x.frames) based (λ onward is. throws c.program x.frames a r class onward is))) (fails_inside c x a phase x (same_keeps x) refl)
   moves_at (phases.Enter n number) k = subst (λ (claim : Claim). Moves c x (enter_moves x n number (may_try c x number) claim got) a (phases.Enter n number) GoesOn) (sym k)
       (let b : Attempt = record a { inner = a.inner + 1 } in
       let z : Thread = record x { attempt = Some b } in

@@ -22,14 +22,12 @@ module _ (c : MarkedProgram) (x y : Thread) (a : Attempt) (tried : x.attempt ≡
   still_counted : (later : Past) → later.wasted + later.pending ≡ d.wasted + with_begun d.pending x.phase → (f : Fate) → Moves c x y a x.phase f → sections_by (sections_of x) f ≡ sections_of x → extra_of y.attempt y.phase ≡ 0
       → CountsFit x d runs takes → CountsFit y later runs takes
   still_counted later same f m no_section none fit =
-      let before = no_extra_inside x.attempt a x.phase tried in
-      let more = more_begun x.counts.instructions x.phase in
       let now = more_begun d.pending x.phase in
       let i = m.keeps.begun in
       let n = m.keeps.done in
       let g = fit.instructions in
       let h = fit.sections in
-      record { instructions = omega (arith, before, none, more, now, same, i, g); sections = omega (arith, n, no_section, h) }
+      record { instructions = omega (arith, no_extra_inside x.attempt a x.phase tried, none, more_begun x.counts.instructions x.phase, now, same, i, g); sections = omega (arith, n, no_section, h) }
 
   counted_by : (f : Fate) → Moves c x y a x.phase f → IsNotFinished f → CountsFit x d runs takes → CountsFit y (past_by d x.phase acts f) runs takes
   counted_by GoesOn m way fit = still_counted (past_by d x.phase acts GoesOn) refl GoesOn m refl (no_extra_inside y.attempt m.has.attempt y.phase m.has.is) fit
@@ -39,12 +37,7 @@ module _ (c : MarkedProgram) (x y : Thread) (a : Attempt) (tried : x.attempt ≡
   -- no instruction begins with the last exit
   finish_counted : Moves c x y a x.phase Finishes → with_begun x.counts.instructions x.phase ≡ x.counts.instructions → extra_of y.attempt y.phase ≡ 0 → CountsFit x d runs takes → CountsFit y (past_by d x.phase acts Finishes) (runs + d.pending) (takes + 1)
   finish_counted m none later fit =
-      let before = no_extra_inside x.attempt a x.phase tried in
-      let i = m.keeps.begun in
-      let n = m.keeps.done in
-      let f = fit.instructions in
-      let g = fit.sections in
-      record { instructions = omega (arith, none, before, later, i, f); sections = omega (arith, n, g) }
+      record { instructions = omega (arith, none, no_extra_inside x.attempt a x.phase tried, later, m.keeps.begun, fit.instructions); sections = omega (arith, m.keeps.done, fit.sections) }
 
 -- ---- the last exit
 
@@ -65,8 +58,7 @@ pub finishes_are_counted : InsideMayDo → ElementsInside → StepsKeepEntry →
 finishes_are_counted may_do elements steps throws leaves c cfg objects was s t x a d runs takes marked facts here tried finish fit =
     let got = found_of c s x in
     let y = moved c x x.phase got in
-    let all = moves_inside steps throws leaves c x a (is_inside may_do elements c marked x a tried (was t) (facts.structure t x here)) got in
-    let m = subst (λ (f : Fate). Moves c x y a x.phase f) finish all in
+    let m = subst (λ (f : Fate). Moves c x y a x.phase f) finish (moves_inside steps throws leaves c x a (is_inside may_do elements c marked x a tried (was t) (facts.structure t x here)) got) in
     let known = at_finish c x a got x.phase finish in
     let calm : IsCalm y.phase = subst (λ (z : Thread). IsCalm z.phase) (sym m.has.goes) (goes_if (elided x) (after c.program x.frames m.has.behind) known.0).phase in
     subst (λ (o : Option Attempt). CountsFit y (past_after c x o got d) (runs + d.pending) (takes + 1)) (sym tried)

@@ -1,10 +1,10 @@
 -- An instruction inside an attempt is one more act of the replay, which finds in every memory that has the places that stay what the
 -- thread found.
-use Rattle.std.proofs.Common.{◌≡◌, ◌⊎◌, inl, inr, ℕ, suc, ◌+◌, ◌-◌, nat_lt, Bool, true, false, List, [], ◌∷◌, Option, Some, None, refl, sym, ap, ◌∙◌, subst, arith, IsSome, slice_get, slice_index, option_map, option_and_then, if◌then◌else◌}
+use Rattle.std.proofs.Common.{◌≡◌, ◌⊎◌, inl, inr, ℕ, suc, ◌+◌, nat_lt, Bool, true, false, List, [], ◌∷◌, Option, Some, None, refl, sym, ap, ◌∙◌, subst, arith, IsSome, slice_get, slice_index, option_map, option_and_then, if◌then◌else◌}
 use Rattle.jvm_types.specs.declared.{outcome.{End.End, Thrown.{Thrown, TheVariants.ArrayIndexOutOfBoundsException}}, program.{MethodInfo.MethodInfo, Program.Program}}
 use Rattle.machine_types.specs.{Accesses.found_by, Attempts.IsReadBegun, Effects.read_by, Events.wanted, FoundWords.{WordFits, effect_content, run_content, content_at}}
 use Rattle.machine_types.specs.{Frames.{Top, frames_of, top_of, effect_at, went, went_on}, Going.{goes_on, goes_on_if, with_phase}}
-use Rattle.machine_types.specs.{History.{Fate, GoesOn, Fails, Finishes, run_fate, instruction_acts, run_acts}, Instructions.{effect_wants, run_wants, begun, did, ran}, Ints.low, Lawful.within}
+use Rattle.machine_types.specs.{History.{Fate, GoesOn, run_fate, instruction_acts, run_acts}, Instructions.{effect_wants, run_wants, begun, did, ran}, Ints.low, Lawful.within}
 use Rattle.machine_types.specs.{Onward.{Onward, Running, Throwing, Entering, Leaving, threw, called, returns, done}, PlainInstructions.got_by, ReadyObjects.thrown_of}
 use Rattle.machine_types.specs.{Replay.{Alone, only_on, reads_only, goes, instructs, replay_act, begun_and_done, status_inside, at_present}, Structure.{IsAs, IsStructured, Stands, AttemptStands}}
 use Rattle.machine_types.specs.{Threads.{Attempt, Thread}, Typed.{FramesHold, PhaseHolds, HasClass}, Words.{header_class, header_length, header_word, value_word, variable_word}}
@@ -23,8 +23,7 @@ use Rattle.laws_simulation.proofs.TopPlaces as agreement
 
 abbrev pub ByFate : Program → (Keeps : (n : ℕ) → Type 0) → (words : List ℕ) → Thread → Attempt → (was now phase : Phase) → Fate → Thread → List Act → Type 0
 ByFate p Keeps words x a was now phase GoesOn y acts = Grows p Keeps words x a was now phase y acts
-ByFate p Keeps words x a was now phase Fails y acts = y.attempt ≡ None
-ByFate p Keeps words x a was now phase Finishes y acts = y.attempt ≡ None
+ByFate p Keeps words x a was now phase fate y acts = y.attempt ≡ None
 
 -- ---- one effect
 
@@ -41,8 +40,7 @@ pub record DoesAlike (p : Program) (Keeps : (n : ℕ) → Type 0) (words : List 
 pub record ComesToElement (p : Program) (words : List ℕ) (x : Thread) (at : Top)
     (e : Effect) : Type 0 where
   pub word : ℕ
-  pub moves : did p (begun x) at e (found_by words (effect_wants x at.frame.pc e)) ≡ with_phase
-      (begun x) (phases.Element word None)
+  pub moves : did p (begun x) at e (found_by words (effect_wants x at.frame.pc e)) ≡ with_phase (begun x) (phases.Element word None)
   pub act : instruction_acts x e (found_by words (effect_wants x at.frame.pc e)) ≡ []
 
 -- ---- of a thread in an attempt, whose instruction begins
@@ -87,29 +85,18 @@ module _ (fit : HeapWordsFit) (allowed : EffectsAreAllowed) (trying : Trying) (r
   DoesSo e = DoesAlike c.program Keeps s.words x at e ⊎ ComesToElement c.program s.words x at e
 
   -- an element of an array that the monitor's object owns
-  indexes : (array index : ℕ) → effect_at c.program at ≡ Indexes array index None
-      → DoesSo (Indexes array index None)
+  indexes : (array index : ℕ) → effect_at c.program at ≡ Indexes array index None → DoesSo (Indexes array index None)
   indexes array index f = by_test (nat_lt (low index) (header_length header)) refl
     where
       header : ℕ
       header = slice_index s.words (header_word array)
 
-      moves_by : (b : Bool) → nat_lt (low index) (header_length header) ≡ b
-          → did c.program (begun x) at (Indexes array index None) header ≡
-          (if b then with_phase (begun x)
-          (phases.Element (value_word array (low index)) None) else goes_on (begun x)
-          (threw ArrayIndexOutOfBoundsException at))
-      moves_by b e = ap (λ (b : Bool). if b then with_phase (begun x)
-          (phases.Element (value_word array (low index)) None) else goes_on (begun x)
-          (threw ArrayIndexOutOfBoundsException at)) e
+      moves_by : (b : Bool) → nat_lt (low index) (header_length header) ≡ b → did c.program (begun x) at (Indexes array index None) header ≡ (if b then with_phase (begun x)
+          (phases.Element (value_word array (low index)) None) else goes_on (begun x) (threw ArrayIndexOutOfBoundsException at))
+      moves_by b e = ap (λ (b : Bool). if b then with_phase (begun x) (phases.Element (value_word array (low index)) None) else goes_on (begun x) (threw ArrayIndexOutOfBoundsException at)) e
 
-      by_test : (b : Bool) → nat_lt (low index) (header_length header) ≡ b
-          → DoesSo (Indexes array index None)
-      by_test true e = inr (record {
-        word = value_word array (low index);
-        moves = moves_by true e;
-        act = ap (λ (b : Bool). if b then [] else acts.Do ∷ []) e;
-      })
+      by_test : (b : Bool) → nat_lt (low index) (header_length header) ≡ b → DoesSo (Indexes array index None)
+      by_test true e = inr (record { word = value_word array (low index); moves = moves_by true e; act = ap (λ (b : Bool). if b then [] else acts.Do ∷ []) e })
       by_test false e = inl (record {
         onward = threw ArrayIndexOutOfBoundsException at;
         moves = moves_by false e;
@@ -119,9 +106,7 @@ module _ (fit : HeapWordsFit) (allowed : EffectsAreAllowed) (trying : Trying) (r
           header,
           knows (header_word array) (header_stays trying (frames_as trying phases.Run counted)
               at at_top _ array (does_at (Indexes array index None) f).1),
-          ap (λ (b : Bool). if b then option_map (λ value. Running (went_on c.program at value))
-              (memory (value_word array (low index))) else Some
-              (threw ArrayIndexOutOfBoundsException at)) e,
+          ap (λ (b : Bool). if b then option_map (λ value. Running (went_on c.program at value)) (memory (value_word array (low index))) else Some (threw ArrayIndexOutOfBoundsException at)) e,
         );
       })
 
@@ -145,8 +130,7 @@ module _ (fit : HeapWordsFit) (allowed : EffectsAreAllowed) (trying : Trying) (r
       loads (Reads v) (variable_word v) (Running (went_on c.program at (slice_index s.words (variable_word v))))
       (variable_stays trying (frames_as trying phases.Run counted) at at_top v named.1 (top_reads c x.frames x.held a at marked attempt_stands stands at_top) f k named.2) refl refl refl
       (λ memory. refl) (λ memory. refl)
-  does (Measures v) f k =
-      loads (Measures v) (header_word v) (Running (went_on c.program at (header_length (slice_index s.words (header_word v)))))
+  does (Measures v) f k = loads (Measures v) (header_word v) (Running (went_on c.program at (header_length (slice_index s.words (header_word v)))))
       (header_stays trying (frames_as trying phases.Run counted) at at_top _ v (does_at (Measures v) f).1) refl refl refl (λ memory. refl) (λ memory. refl)
   does (Raises v) f k =
       let class = is_some_thrown (thrown_of (header_class (slice_index s.words (header_word v)))) (raised v f) in
@@ -180,54 +164,39 @@ module _ (fit : HeapWordsFit) (allowed : EffectsAreAllowed) (trying : Trying) (r
     module _ (d : DoesAlike c.program Keeps s.words x at its)
         (k : IsStructured c now (goes_on (begun x) d.onward)) where
       alike : GoesAlike c x a now (begun x) d.onward
-      alike = going_alike c x a now (begun x) a.inner refl attempt_stands.based d.onward tries
-          (steps_kept c.program x.frames a at d.step.0 d.step.1 d.onward at_top d.step.2) k
+      alike = going_alike c x a now (begun x) a.inner refl attempt_stands.based d.onward tries (steps_kept c.program x.frames a at d.step.0 d.step.1 d.onward at_top d.step.2) k
 
-      acted : (memory : ℕ → Option ℕ) → Knows Keeps s.words memory → (n : ℕ) (ended : List End)
-          → replay_act c.program a.monitor memory (at_present x a phases.Run n ended) acts.Do plain.Run ≡ Some
+      acted : (memory : ℕ → Option ℕ) → Knows Keeps s.words memory → (n : ℕ) (ended : List End) → replay_act c.program a.monitor memory (at_present x a phases.Run n ended) acts.Do plain.Run ≡ Some
           (at_present (goes_on (begun x) d.onward) a now (n + 1) ended)
       acted memory knows n ended =
           let z : Alone = at_present x a phases.Run n ended in
           let more : Alone = record z { begun = n + 1 } in
           let found = d.reads memory knows in
-          ap (instructs c.program a.monitor memory z) at_top
-          ∙ ap (λ (o : Option ℕ). goes more (option_and_then
-          (λ word. option_and_then (only_on a.monitor)
-          (reads_only c.program memory at its word)) o)) found.1
-          ∙ ap (λ (o : Option Onward). goes more (option_and_then (only_on a.monitor) o)) found.2
-          ∙ ap (goes more) alike.only
+          ap (instructs c.program a.monitor memory z) at_top ∙ ap (λ (o : Option ℕ). goes more (option_and_then (λ word. option_and_then (only_on a.monitor)
+          (reads_only c.program memory at its word)) o)) found.1 ∙ ap (λ (o : Option Onward). goes more (option_and_then (only_on a.monitor) o)) found.2 ∙ ap (goes more) alike.only
           ∙ comes_there c x a now (begun x) d.onward a.inner alike plain.Run ended (n + 1)
 
       its_grown : GrowsTo (goes_on (begun x) d.onward) (acts.Do ∷ [])
       its_grown = grown c x a now (begun x) d.onward a.inner alike Keeps s.words (was t) phases.Run acts.Do counted tries (λ memory knows n some ended. acted memory knows n ended)
 
     -- it is still to be done
-    comes : (word : ℕ) → IsStructured c now (with_phase (begun x) (phases.Element word None))
-        → GrowsTo (with_phase (begun x) (phases.Element word None)) []
+    comes : (word : ℕ) → IsStructured c now (with_phase (begun x) (phases.Element word None)) → GrowsTo (with_phase (begun x) (phases.Element word None)) []
     comes word k = record {
       inner = a.inner;
       attempt = tries;
       entry = λ ended. refl;
       begun = λ n. subst (λ (phase : Phase). IsReadBegun phase (n + 1)) (sym k.is_as) (omega arith);
       replays = λ memory knows n some ended. (
-          let status : status_inside (was t) ≡ status_inside now = ap status_inside counted
-          ∙ ap status_inside (sym k.is_as) in
-          let one : n ≡ n + 1 - 1 = omega arith in
-          let same : begun_and_done (was t) n ≡ begun_and_done now (n + 1) =
-          ap (λ (phase : Phase). begun_and_done phase n) counted ∙ one
+          let status : status_inside (was t) ≡ status_inside now = ap status_inside counted ∙ ap status_inside (sym k.is_as) in
+          let same : begun_and_done (was t) n ≡ begun_and_done now (n + 1) = ap (λ (phase : Phase). begun_and_done phase n) counted ∙ (omega arith)
           ∙ ap (λ (phase : Phase). begun_and_done phase (n + 1)) (sym k.is_as) in
           (λ i. Some (let next : Alone = record { thread = record { frames = x.frames; status = status i; roots = x.roots; ended = ended }; depth = suc a.inner; begun = same i } in next)));
     }
 
-    grows_by : (d : DoesSo its) → IsStructured c now (did c.program (begun x) at its got)
-        → GrowsTo (did c.program (begun x) at its got) (instruction_acts x its got)
-    grows_by (inl d) k = subst (λ (y : Thread). GrowsTo y (instruction_acts x its got))
-        (sym d.moves)
-        (subst (λ (act : List Act). GrowsTo (goes_on (begun x) d.onward) act) (sym d.act)
+    grows_by : (d : DoesSo its) → IsStructured c now (did c.program (begun x) at its got) → GrowsTo (did c.program (begun x) at its got) (instruction_acts x its got)
+    grows_by (inl d) k = subst (λ (y : Thread). GrowsTo y (instruction_acts x its got)) (sym d.moves) (subst (λ (act : List Act). GrowsTo (goes_on (begun x) d.onward) act) (sym d.act)
         (its_grown d (subst (IsStructured c now) d.moves k)))
-    grows_by (inr d) k = subst (λ (y : Thread). GrowsTo y (instruction_acts x its got))
-        (sym d.moves)
-        (subst (λ (act : List Act). GrowsTo (with_phase (begun x) (phases.Element d.word None)) act)
+    grows_by (inr d) k = subst (λ (y : Thread). GrowsTo y (instruction_acts x its got)) (sym d.moves) (subst (λ (act : List Act). GrowsTo (with_phase (begun x) (phases.Element d.word None)) act)
         (sym d.act) (comes d.word (subst (IsStructured c now) d.moves k)))
 
     abbrev RunsBy : Option Top → Type 0
@@ -236,5 +205,4 @@ module _ (fit : HeapWordsFit) (allowed : EffectsAreAllowed) (trying : Trying) (r
 
     pub runs_by_fate : RunsBy (top_of c.program x.frames)
     runs_by_fate = subst RunsBy (sym at_top) (instructed_by (λ y fate. IsStructured c now y → ByFate c.program Keeps s.words x a (was t) now phases.Run fate y
-        (instruction_acts x its got)) c.program a (begun x) at its got tries
-        (grows_by (does its refl (inside_may c x.frames x.held a at marked attempt_stands stands at_top))) (λ k. refl))
+        (instruction_acts x its got)) c.program a (begun x) at its got tries (grows_by (does its refl (inside_may c x.frames x.held a at marked attempt_stands stands at_top))) (λ k. refl))

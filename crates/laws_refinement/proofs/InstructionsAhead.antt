@@ -16,17 +16,10 @@ at_or_behind pc (insn ∷ insns) = (if nat_le pc insn.pc then 1 else 0) + at_or_
 
 pub no_more_than : (pc : ℕ) (code : List Insn) → at_or_behind pc code ≤ length code
 no_more_than pc [] = omega arith
-no_more_than pc (insn ∷ insns) =
-    (elim (nat_le pc insn.pc) as (λ (b : Bool). at_or_behind pc insns ≤ length insns → (if b then 1 else 0) + at_or_behind pc insns ≤ suc (length insns))
-    [ true ↦ λ h. omega (arith, h) | false ↦ λ h. omega (arith, h) ]) (no_more_than pc insns)
+no_more_than pc (insn ∷ insns) = grind (arith, nat_tests, no_more_than pc insns)
 
 one_later : (pc to k : ℕ) → pc ≤ to → (if nat_le to k then 1 else 0) ≤ (if nat_le pc k then 1 else 0)
-one_later pc to k h = by_tests (nat_le to k) (nat_le pc k) refl refl
-  where
-    by_tests : (a b : Bool) → nat_le to k ≡ a → nat_le pc k ≡ b → (if a then 1 else 0) ≤ (if b then 1 else 0)
-    by_tests false b e f = omega arith
-    by_tests true true e f = omega arith
-    by_tests true false e f = absurd (let no : ⊥ = grind (arith, nat_tests, h, e, f) in no)
+one_later pc to k h = grind (arith, nat_tests, h)
 
 fewer_later : (pc to : ℕ) (code : List Insn) → pc ≤ to → at_or_behind to code ≤ at_or_behind pc code
 fewer_later pc to [] h = omega arith
@@ -34,19 +27,13 @@ fewer_later pc to (insn ∷ insns) h = omega (arith, one_later pc to insn.pc h, 
 
 -- past an instruction that stands at the pc
 pub one_fewer : {A : Type 0} (pc to : ℕ) (code : List Insn) (xs : List A) (x : A) → at_pc code xs pc ≡ Some x → pc < to → suc (at_or_behind to code) ≤ at_or_behind pc code
-one_fewer pc to [] xs x e h = absurd (cc)
-one_fewer pc to (insn ∷ insns) [] x e h = absurd (cc)
 one_fewer {A} pc to (insn ∷ insns) (y ∷ ys) x e h = by_test (insn.pc == pc) refl e (λ e. one_fewer pc to insns ys x e h)
   where
-    here : insn.pc ≡ pc → (a b : Bool) → nat_le to insn.pc ≡ a → nat_le pc insn.pc ≡ b → suc ((if a then 1 else 0) + at_or_behind to insns) ≤ (if b then 1 else 0) + at_or_behind pc insns
-    here same false true f g = omega (arith, fewer_later pc to insns (omega (arith, h)))
-    here same true b f g = absurd (let no : ⊥ = grind (arith, nat_tests, same, h, f) in no)
-    here same false false f g = absurd (let no : ⊥ = grind (arith, nat_tests, same, g) in no)
-
     by_test : (b : Bool) → (insn.pc == pc) ≡ b → (if b then Some y else at_pc insns ys pc) ≡ Some x → (at_pc insns ys pc ≡ Some x → suc (at_or_behind to insns) ≤ at_or_behind pc insns)
         → suc (at_or_behind to (insn ∷ insns)) ≤ at_or_behind pc (insn ∷ insns)
-    by_test true k e more = here (let same : insn.pc ≡ pc = grind (arith, nat_tests, k) in same) (nat_le to insn.pc) (nat_le pc insn.pc) refl refl
+    by_test true k e more = grind (arith, nat_tests, k, h, fewer_later pc to insns (omega (arith, h)))
     by_test false k e more = omega (arith, one_later pc to insn.pc (omega (arith, h)), more e)
+one_fewer pc to code xs x e h = absurd (cc)
 
 -- ---- in one frame
 
@@ -66,10 +53,8 @@ pub record IsTop (p : Program) (f : Frame) (fs : List Frame) (at : Top) : Type 0
   pub insn : at_pc at.method.code at.method.code f.pc ≡ Some at.insn
 
 top_is : (p : Program) (f : Frame) (fs : List Frame) (m : MethodInfo) (o : Option Insn) (q : Option Target) (at : Top) → slice_get p.methods f.method ≡ Some m → at_pc m.code m.code f.pc ≡ o → top_at f fs m o q ≡ Some at → IsTop p f fs at
-top_is p f fs m None q at there found e = absurd (cc)
-top_is p f fs m (Some insn) None at there found e = absurd (cc)
-top_is p f fs m (Some insn) (Some target) at there found e =
-    subst (λ (k : Top). IsTop p f fs k) (same_some e) (record { frame = refl; below = refl; method = there; insn = found })
+top_is p f fs m (Some insn) (Some target) at there found e = subst (λ (k : Top). IsTop p f fs k) (same_some e) (record { frame = refl; below = refl; method = there; insn = found })
+top_is p f fs m o q at there found e = absurd (cc)
 
 top_in_is : (p : Program) (f : Frame) (fs : List Frame) (o : Option MethodInfo) (at : Top) → slice_get p.methods f.method ≡ o → top_in f fs o ≡ Some at → IsTop p f fs at
 top_in_is p f fs None at there e = absurd (cc)
@@ -80,8 +65,6 @@ is_top p f fs at e = top_in_is p f fs (slice_get p.methods f.method) at refl e
 
 -- where its instruction stands in the code
 stands_at : {A : Type 0} (pc : ℕ) (code : List Insn) (xs : List A) (x : A) → at_pc code xs pc ≡ Some x → (i : ℕ) × (insn : Insn) × (slice_get code i ≡ Some insn) × (insn.pc ≡ pc) × (slice_get xs i ≡ Some x)
-stands_at pc [] xs x e = absurd (cc)
-stands_at pc (insn ∷ insns) [] x e = absurd (cc)
 stands_at {A} pc (insn ∷ insns) (y ∷ ys) x e = by_test (insn.pc == pc) refl e (λ e. stands_at pc insns ys x e)
   where
     by_test : (b : Bool) → (insn.pc == pc) ≡ b → (if b then Some y else at_pc insns ys pc) ≡ Some x
@@ -89,14 +72,13 @@ stands_at {A} pc (insn ∷ insns) (y ∷ ys) x e = by_test (insn.pc == pc) refl 
         → (i : ℕ) × (other : Insn) × (slice_get (insn ∷ insns) i ≡ Some other) × (other.pc ≡ pc) × (slice_get (y ∷ ys) i ≡ Some x)
     by_test true k e more = (0, insn, refl, grind (arith, nat_tests, k), e)
     by_test false k e more = let m = more e in (suc m.0, m.1, m.2, m.3, m.4)
+stands_at pc code xs x e = absurd (cc)
 
 pub next_is_later : (c : MarkedProgram) (f : Frame) (fs : List Frame) (at : Top) → IsMarked c → IsTop c.program f fs at → f.pc < at.insn.next
 next_is_later c f fs at marked k =
     let s = stands_at f.pc at.method.code at.method.code at.insn k.insn in
-    let same : s.1 ≡ at.insn = same_some (sym s.2 ∙ s.4) in
-    let pc : at.insn.pc ≡ f.pc = ap (λ (i : Insn). i.pc) (sym same) ∙ s.3 in
     let later : at.insn.pc < at.insn.next = next_later at.method s.0 at.insn (methods_laid_out c.program f.method at.method marked.checked.program k.method) s.4 in
-    omega (arith, pc, later)
+    omega (arith, ap (λ (i : Insn). i.pc) (sym (same_some (sym s.2 ∙ s.4))) ∙ s.3, later)
 
 -- ---- in the frames of an attempt, which stand on those below it
 
@@ -108,23 +90,18 @@ module _ (p : Program) (base : ℕ) (f : Frame) (fs : List Frame) (at : Top) (k 
   -- the same frame at another pc
   goes_later : (g : Frame) → g.method ≡ f.method → f.pc < g.pc → suc (ahead p g) ≤ ahead p f
   goes_later g same later =
-      let there : slice_get p.methods g.method ≡ Some at.method = ap (λ (n : ℕ). slice_get p.methods n) same ∙ k.method in
-      rw (ap (ahead_in g.pc) there) (rw (ap (ahead_in f.pc) k.method) (one_fewer f.pc g.pc at.method.code at.method.code at.insn k.insn later))
+      rw (ap (ahead_in g.pc) (ap (λ (n : ℕ). slice_get p.methods n) same ∙ k.method)) (rw (ap (ahead_in f.pc) k.method) (one_fewer f.pc g.pc at.method.code at.method.code at.insn k.insn later))
 
   some_ahead : 1 ≤ ahead p f
-  some_ahead =
-      let one : suc (at_or_behind (suc f.pc) at.method.code) ≤ at_or_behind f.pc at.method.code = one_fewer f.pc (suc f.pc) at.method.code at.method.code at.insn k.insn (omega arith) in
-      rw (ap (ahead_in f.pc) k.method) (omega (arith, one))
+  some_ahead = rw (ap (ahead_in f.pc) k.method) (omega (arith, one_fewer f.pc (suc f.pc) at.method.code at.method.code at.insn k.insn (omega arith)))
 
   -- the top frame goes on
   pub top_goes_on : (g : Frame) → base ≤ length fs → g.method ≡ f.method → f.pc < g.pc → 1 + all_ahead p base (g ∷ fs) ≤ all_ahead p base (f ∷ fs)
-  top_goes_on g based same later = (elim (nat_le base (length fs)) as (λ (b : Bool). b ≡ true → suc (ahead p g) ≤ ahead p f → 1 + ((if b then ahead p g else 0) + all_ahead p base fs) ≤ (if b then ahead p f else 0) + all_ahead p base fs)
-      [ true ↦ λ e h. omega (arith, h) | false ↦ λ e h. absurd (cc) ]) (grind (arith, nat_tests, based)) (goes_later g same later)
+  top_goes_on g based same later = grind (arith, nat_tests, based, goes_later g same later)
 
   -- or is left
   pub top_is_left : base ≤ length fs → 1 + all_ahead p base fs ≤ all_ahead p base (f ∷ fs)
-  top_is_left based = (elim (nat_le base (length fs)) as (λ (b : Bool). b ≡ true → 1 ≤ ahead p f → 1 + all_ahead p base fs ≤ (if b then ahead p f else 0) + all_ahead p base fs)
-      [ true ↦ λ e h. omega (arith, h) | false ↦ λ e h. absurd (cc) ]) (grind (arith, nat_tests, based)) some_ahead
+  top_is_left based = grind (arith, nat_tests, based, some_ahead)
 
 -- the frame that called goes on behind its call
 module _ (c : MarkedProgram) (marked : IsMarked c) (base : ℕ) where
@@ -132,15 +109,10 @@ module _ (c : MarkedProgram) (marked : IsMarked c) (base : ℕ) where
   caller_on result f fs None e = omega arith
   caller_on result f fs (Some at) e =
       let k : IsTop c.program f fs at = is_top c.program f fs at e in
-      let later : f.pc < at.insn.next = next_is_later c f fs at marked k in
-      by_frames (record at.frame { pc = at.insn.next; stack = result ++ at.frame.stack }) at.below k.below (ap (λ (g : Frame). g.method) k.frame) later k
+      by_frames (record at.frame { pc = at.insn.next; stack = result ++ at.frame.stack }) at.below k.below (ap (λ (g : Frame). g.method) k.frame) (next_is_later c f fs at marked k) k
     where
       by_frames : (g : Frame) (below : List Frame) → below ≡ fs → g.method ≡ f.method → f.pc < g.pc → IsTop c.program f fs at → all_ahead c.program base (g ∷ below) ≤ all_ahead c.program base (f ∷ fs)
-      by_frames g below same m later k = rw same (by_test (nat_le base (length fs)) (goes_later c.program base f fs at k g m later))
-        where
-          by_test : (b : Bool) → suc (ahead c.program g) ≤ ahead c.program f → (if b then ahead c.program g else 0) + all_ahead c.program base fs ≤ (if b then ahead c.program f else 0) + all_ahead c.program base fs
-          by_test true h = omega (arith, h)
-          by_test false h = omega arith
+      by_frames g below same m later k = rw same (grind (arith, nat_tests, goes_later c.program base f fs at k g m later))
 
   behind_caller : (result : List ℕ) (below : List Frame) → all_ahead c.program base (given result (top_of c.program below)) ≤ all_ahead c.program base below
   behind_caller result [] = omega arith

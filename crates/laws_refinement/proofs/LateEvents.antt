@@ -31,11 +31,9 @@ left_in p base phase fs = 0
 
 abbrev left_on : Program → (base : ℕ) → Onward → ℕ
 left_on p base (Running fs) = all_ahead p base fs
-left_on p base (Throwing x class fs) = 0
 left_on p base (Entering m fs) = all_ahead p base fs
 left_on p base (Leaving m e fs) = left_in p base (phases.Leave m e) fs
-left_on p base RootReturned = 0
-left_on p base (Uncaught class) = 0
+left_on p base o = 0
 
 -- ---- behind an event
 
@@ -67,8 +65,7 @@ module _ (p : Program) (a : Attempt) where
 
   -- a check that fails
   check_fails : (n k : ℕ) (s : Thread) (o : Option Attempt) (got : ℕ) (more : Thread) → o ≡ Some a → is_same a got ≡ false → k ≤ n → Falls n k (if_same s o got more)
-  check_fails n k s o got more is differs few =
-      subst (λ (t : Option Attempt). Falls n k (if_same s t got more)) (sym is)
+  check_fails n k s o got more is differs few = subst (λ (t : Option Attempt). Falls n k (if_same s t got more)) (sym is)
       (subst (λ (b : Bool). Falls n k (if b then more else fails s a)) (sym differs) (over n k (fails s a) few refl))
 
 -- ---- an instruction
@@ -108,8 +105,7 @@ module _ (c : MarkedProgram) (marked : IsMarked c) (x : Thread) (a : Attempt) (t
 
     does : (e : Effect) (got : ℕ) → is_checked at.frame.pc e ≡ false → MayDo c a.monitor at e → IsAllowed c.program at e → GoesOnBy c.program at e got → Lessens whole 1 (did c.program (begun x) at e got)
     does (Goes to made) got free may allowed some =
-        let later : at.frame.pc < to = grind (arith, nat_tests, free) in
-        on (Running (went c.program at to made)) (top_goes_on c.program a.base at.frame at.below at k (frame_on (top_row c.program at) to made at.frame) based refl later)
+        on (Running (went c.program at to made)) (top_goes_on c.program a.base at.frame at.below at k (frame_on (top_row c.program at) to made at.frame) based refl (grind (arith, nat_tests, free)))
     does (Throws z) got free may allowed some = on (threw z at) (omega (arith, left_behind))
     does (Reads v) got free may allowed some = on (Running (went_on c.program at got)) (on_next got)
     does (Indexes array index None) got free may allowed some = indexes array (low index) (header_length got)
@@ -138,22 +134,13 @@ module _ (c : MarkedProgram) (marked : IsMarked c) (x : Thread) (a : Attempt) (t
 
   -- ---- an element
 
-  reads : (made : ℕ) → a.base < length x.frames → (at : Top) → top_of c.program x.frames ≡ Some at
-      → Lessens (all_ahead c.program a.base x.frames - 1) 0
-      (goes_on_if x (option_map (λ q. Running (went_on c.program q made))
-      (top_of c.program x.frames)))
+  reads : (made : ℕ) → a.base < length x.frames → (at : Top) → top_of c.program x.frames ≡ Some at → Lessens (all_ahead c.program a.base x.frames - 1) 0
+      (goes_on_if x (option_map (λ q. Running (went_on c.program q made)) (top_of c.program x.frames)))
   reads made based at found =
       let same : frames_of at ≡ x.frames = frames_are c.program x.frames at found in
-      let long : length (frames_of at) ≡ length x.frames = ap length same in
-      let few : a.base ≤ length at.below = omega (arith, based, long) in
-      let one : all_ahead c.program a.base (frames_of at) ≡ all_ahead c.program a.base x.frames =
-      ap (all_ahead c.program a.base) same in
-      let less = on_next at (is_top c.program at.frame at.below at
-      (ap (top_of c.program) same ∙ found)) few same made in
-      subst (λ (o : Option Top). Lessens (all_ahead c.program a.base x.frames - 1) 0
-      (goes_on_if x (option_map (λ q. Running (went_on c.program q made)) o))) (sym found)
-      (goes c.program a (all_ahead c.program a.base x.frames - 1) 0 a.inner x
-      (Running (went_on c.program at made)) tries (omega (arith, less, one)))
+      let less = on_next at (is_top c.program at.frame at.below at (ap (top_of c.program) same ∙ found)) (omega (arith, based, ap length same)) same made in
+      subst (λ (o : Option Top). Lessens (all_ahead c.program a.base x.frames - 1) 0 (goes_on_if x (option_map (λ q. Running (went_on c.program q made)) o))) (sym found)
+      (goes c.program a (all_ahead c.program a.base x.frames - 1) 0 a.inner x (Running (went_on c.program at made)) tries (omega (arith, less, ap (all_ahead c.program a.base) same)))
 
   -- ---- monitors
 
@@ -201,17 +188,14 @@ module _ (c : MarkedProgram) (marked : IsMarked c) (x : Thread) (a : Attempt) (t
       subst (λ (fs : List Frame). Lessens (all_ahead c.program a.base fs) 1 (ran c.program x (top_of c.program x.frames) got)) same
       (subst (λ (o : Option Top). Lessens (all_ahead c.program a.base (frames_of at)) 1 (ran c.program x o got)) (sym (has refl).found)
       (instruction at (is_top c.program at.frame at.below at found) few same (effect_at c.program at) got fails_if may (has refl).allowed ((has refl).goes_on got word)))
-  late (phases.Element word stored) got e known based has fits missed =
-      reads (element_made stored got) based known.at known.found
+  late (phases.Element word stored) got e known based has fits missed = reads (element_made stored got) based known.at known.found
   late (phases.Throw r class) got e known based has fits missed = check_fails c.program a 0 0 x x.attempt got _ tries (missed looks_there) (omega arith)
-  late (phases.Enter m tried) got e known based has fits missed =
-      subst (λ (q : Claim). Lessens (all_ahead c.program a.base x.frames) 0 (enter_moves x m tried (may_try c x tried) q got)) (sym known)
+  late (phases.Enter m tried) got e known based has fits missed = subst (λ (q : Claim). Lessens (all_ahead c.program a.base x.frames) 0 (enter_moves x m tried (may_try c x tried) q got)) (sym known)
       (runs_with c.program a (all_ahead c.program a.base x.frames) 0 (a.inner + 1) (record x { attempt = Some (record a { inner = a.inner + 1 }) }) refl (omega arith))
   late (phases.Leave m after) got e known based has fits missed =
       let same : m ≡ a.monitor = sym (tried_at m (held_at x.held m) x.attempt a known).1 in
       let looked : finish_wants m a.inner ≡ Some (Load m) → is_same a got ≡ false = λ w. missed (ap (leave_wants x m) known ∙ w ∙ ap (λ (n : ℕ). Some (Load n)) same) in
-      subst (λ (q : Claim). Lessens (left_in c.program a.base (phases.Leave m after) x.frames) 0 (leave_moves c.program x m after q got)) (sym known)
-      (finish m after a.inner got (has refl).1 looked)
+      subst (λ (q : Claim). Lessens (left_in c.program a.base (phases.Leave m after) x.frames) 0 (leave_moves c.program x m after q got)) (sym known) (finish m after a.inner got (has refl).1 looked)
   late (phases.Ending end) got e known based has fits missed = goes_on_with c.program a 0 0 a.inner (with_phase x (phases.Ended end)) tries (omega arith)
   late (phases.Ended end) got e known based has fits missed = goes_on_with c.program a 0 0 a.inner x tries (rw e (omega arith))
   late phase got e known based has fits missed = absurd known

@@ -22,8 +22,7 @@ module _ (c : MarkedProgram) (cfg : Config) (objects : List Object) (was : ℕ �
 
   pub held_not : (m n : ℕ) → slice_index s.words m ≡ word_of_lock (Free n) → HoldsMonitor m x → ⊥
   held_not m n e (h, has) =
-      let free = free_at (references_of objects) s.words m n e in
-      let by_word : hold_by_word t (v.lock m) v.owner ≡ NotHeld = ap (λ (l : LockWord). hold_by_word t l v.owner) free.1 in
+      let by_word : hold_by_word t (v.lock m) v.owner ≡ NotHeld = ap (λ (l : LockWord). hold_by_word t l v.owner) (free_at (references_of objects) s.words m n e).1 in
       let none : held_at x.held m ≡ None = not_held (held_at x.held m) (sym ((facts.owners.each t x there).holds m) ∙ by_word) in
       absurd (cc)
 
@@ -32,8 +31,7 @@ module _ (c : MarkedProgram) (cfg : Config) (objects : List Object) (was : ℕ �
   module _ (u : ℕ) (y : Thread) (there_too : slice_get s.threads u ≡ Some y) (a : Attempt) (tries : y.attempt ≡ Some a) where
     has_monitor : HasObject objects a.monitor
     has_monitor =
-        let k : AttemptHolds c (HasClass objects) y.frames (Some a) = subst (AttemptHolds c (HasClass objects) y.frames) tries (facts.heap.typed.threads u y there_too).attempt in
-        let m : IsObject (HasClass objects) a.monitor = k.0 in
+        let m : IsObject (HasClass objects) a.monitor = (subst (AttemptHolds c (HasClass objects) y.frames) tries (facts.heap.typed.threads u y there_too).attempt).0 in
         (m.1.0, m.1.1, m.1.2)
 
     saw : AttemptSawIn v facts.owners.count y.cfg (Some a)
@@ -44,15 +42,13 @@ module _ (c : MarkedProgram) (cfg : Config) (objects : List Object) (was : ℕ �
     kept h count e flat =
         let own = facts.owners.each t x there in
         let hold : hold_by_word t (v.lock a.monitor) v.owner ≡ HeldFlat = own.holds a.monitor ∙ ap hold_by_list e ∙ ap hold_by_kept flat in
-        let seen : a.noted ≤ facts.owners.count a.monitor = thin_seen (v.lock a.monitor) a.noted (facts.owners.count a.monitor) (thin_if_flat t (v.lock a.monitor) v.owner hold) saw.seen in
         let same : count ≡ facts.owners.count a.monitor = subst (λ (k : Kept). IsKeptCount k (facts.owners.count a.monitor)) flat (subst (λ (o : Option Held). IsKeptIn o (facts.owners.count a.monitor)) e (own.keeps_count a.monitor)) in
-        omega (arith, seen, same)
+        omega (arith, thin_seen (v.lock a.monitor) a.noted (facts.owners.count a.monitor) (thin_if_flat t (v.lock a.monitor) v.owner hold) saw.seen, same)
 
     flat_out : (b : ℕ) (after : _) → x.phase ≡ FlatOut b after → IsFlat (held_at x.held b)
     flat_out b after e =
         let st : IsStructured c (was t) (record x { phase = FlatOut b after }) = subst (λ (phase : Phase). IsStructured c (was t) (record x { phase = phase })) e (facts.structure t x there) in
-        let stands : Stands c (FlatOut b after) x.frames x.held x.attempt = subst (λ (phase : Phase). Stands c phase x.frames x.held x.attempt) st.is_as st.stands in
-        stands.phase_shows.flat
+        (subst (λ (phase : Phase). Stands c phase x.frames x.held x.attempt) st.is_as st.stands).phase_shows.flat
 
     pub noted_before : KnownSites → IsMarked c → IsAsNoted (words_after s.words (wanted c x x.phase)) a → IsAsNoted s.words a
     noted_before sites marked now = elim (word_at (heap_mover c marked objects s facts.heap t x there (facts.threads.lawful t x there)) sites (LockOf a.monitor) has_monitor) [

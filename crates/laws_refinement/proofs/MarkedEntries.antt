@@ -12,19 +12,13 @@ use Rattle.laws_refinement.specs.EntryLaws.{BeginsBehind, IsAtMarked}
 
 begins_behind : (spot : Spot) (pc : ℕ) → is_same_spot spot (entered_at pc) ≡ true → BeginsBehind spot pc
 begins_behind Method zero e = refl
-begins_behind Method (suc pc) e = absurd (let bad : false ≡ true = e in cc)
-begins_behind (Block enter) zero e = absurd (let bad : false ≡ true = e in cc)
 begins_behind (Block enter) (suc pc) e = let same : enter ≡ pc = (Decides-eqb enter pc).0 e in omega (arith, same)
+begins_behind spot pc e = absurd (let bad : false ≡ true = e in cc)
 
 is_entered : (spot : Spot) (pc : ℕ) → BeginsBehind spot pc → spot ≡ entered_at pc
 is_entered Method zero k = refl
-is_entered Method (suc pc) k = absurd (omega (arith, k))
-is_entered (Block enter) zero k = absurd (omega (arith, k))
 is_entered (Block enter) (suc pc) k = let same : enter ≡ pc = omega (arith, k) in ap Block same
-
-same_spot : (spot : Spot) → is_same_spot spot spot ≡ true
-same_spot Method = refl
-same_spot (Block pc) = same_number pc pc refl
+is_entered spot pc k = absurd (omega (arith, k))
 
 -- ---- from the test to the mark
 
@@ -63,29 +57,19 @@ module _ (p : Program) (tags : Tagged) (uses : Uses) (method pc : ℕ) where
   here = record { method = method; spot = entered_at pc }
 
   mark_here : (s : Section) (m : SectionMark) → IsMarkOf p tags uses s m → m.method ≡ method → m.spot ≡ entered_at pc → HasMark p tags uses here m.mark
-  mark_here s m k method_is spot_is =
-      let of_method : s.method ≡ method = sym k.method ∙ method_is in
-      let of_spot : s.spot ≡ entered_at pc = sym k.spot ∙ spot_is in
-      let section : s ≡ here = λ i. record { method = of_method i; spot = of_spot i } in
-      subst (λ x. HasMark p tags uses x m.mark) section k.mark_is
-
-  is_zero : HasMark p tags uses here 0 → (n : ℕ) → HasMark p tags uses here n → n ≡ 0
-  is_zero free zero k = refl
-  is_zero free (suc n) k = absurd (free (suc n) k.0)
+  mark_here s m k method_is spot_is = subst (λ x. HasMark p tags uses x m.mark) (λ i. record { method = (sym k.method ∙ method_is) i; spot = (sym k.spot ∙ spot_is) i }) k.mark_is
 
   module _ (mark : SectionMark) (of_method : mark.method ≡ method) (of_spot : mark.spot ≡ entered_at pc) where
     is_free : (ss : List Section) (marks : List SectionMark) → AllZip (IsMarkOf p tags uses) ss marks → (k : ℕ) → k < length marks → slice_index_or marks k mark ≡ mark → mark.mark ≡ 0 → HasMark p tags uses here 0
     is_free ss [] all k below e none = absurd (omega (arith, below))
     is_free [] (m ∷ ms) all k below e none = absurd all
-    is_free (s ∷ ss) (m ∷ ms) all zero below e none =
-        let own : IsMarkOf p tags uses s mark = subst (IsMarkOf p tags uses s) e all.0 in
-        subst (HasMark p tags uses here) none (mark_here s mark own of_method of_spot)
+    is_free (s ∷ ss) (m ∷ ms) all zero below e none = subst (HasMark p tags uses here) none (mark_here s mark (subst (IsMarkOf p tags uses s) e all.0) of_method of_spot)
     is_free (s ∷ ss) (m ∷ ms) all (suc k) below e none = is_free ss ms all.1 k (omega (arith, below)) e none
 
     same_section : ((mark.method == method) && is_same_spot mark.spot (entered_at pc)) ≡ true
-    same_section =
-        both_true (mark.method == method) (is_same_spot mark.spot (entered_at pc)) (same_number mark.method method of_method)
-        (subst (λ (spot : Spot). is_same_spot spot (entered_at pc) ≡ true) (sym of_spot) (same_spot (entered_at pc)))
+    same_section = both_true (mark.method == method) (is_same_spot mark.spot (entered_at pc)) (same_number mark.method method of_method)
+        (subst (λ (spot : Spot). is_same_spot spot (entered_at pc) ≡ true) (sym of_spot)
+        (elim (entered_at pc) as (λ (spot : Spot). is_same_spot spot spot ≡ true) [ Method ↦ refl | Block n ↦ same_number n n refl ]))
 
     passes : HasMark p tags uses here 0 → (ss : List Section) (marks : List SectionMark) → AllZip (IsMarkOf p tags uses) ss marks → (k : ℕ) → k < length marks → slice_index_or marks k mark ≡ mark → is_marked marks method (entered_at pc) ≡ true
     passes free ss [] all k below e = absurd (omega (arith, below))
@@ -96,8 +80,8 @@ module _ (p : Program) (tags : Tagged) (uses : Uses) (method pc : ℕ) where
             → ((j : ℕ) → j < length ms → slice_index_or ms j mark ≡ mark → is_marked ms method (entered_at pc) ≡ true) → cond b (m.mark == 0) (is_marked ms method (entered_at pc)) ≡ true
         by_test true same k below e more =
             let both = both_are_true (m.method == method) (is_same_spot m.spot (entered_at pc)) same in
-            let spot_is : m.spot ≡ entered_at pc = is_entered m.spot pc (begins_behind m.spot pc both.1) in
-            same_number m.mark 0 (is_zero free m.mark (mark_here s m all.0 ((Decides-eqb m.method method).0 both.0) spot_is))
+            same_number m.mark 0 ((elim m.mark as (λ (n : ℕ). HasMark p tags uses here n → n ≡ 0) [ zero ↦ λ k. refl | suc n ↦ λ k. absurd (free (suc n) k.0) ])
+            (mark_here s m all.0 ((Decides-eqb m.method method).0 both.0) (is_entered m.spot pc (begins_behind m.spot pc both.1))))
         by_test false same zero below e more =
             let bad : true ≡ false = sym same_section ∙ ap (λ (x : SectionMark). (x.method == method) && is_same_spot x.spot (entered_at pc)) (sym e) ∙ same in absurd (cc)
         by_test false same (suc k) below e more = more k (omega (arith, below)) e

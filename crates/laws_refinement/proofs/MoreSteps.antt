@@ -16,10 +16,7 @@ run_on p (step ∷ xs) ys q r e = (elim (plain_step p q step) as (λ (o : Option
     [ None ↦ λ f. absurd (cc) | Some z ↦ λ f. run_on p xs ys z r f ]) e
 
 pub count_on : (p : Program) (count : Plain → PlainStep → ℕ) (xs ys : List PlainStep) (q r : Plain) → plain_run p q xs ≡ Some r → count_along p count (xs ++ ys) q ≡ count_along p count xs q + count_along p count ys r
-count_on p count xs ys q r e =
-    let more = counts_append p count xs ys q in
-    let rest : count_from (count_along p count ys) (plain_run p q xs) ≡ count_along p count ys r = ap (count_from (count_along p count ys)) e in
-    omega (arith, more, rest)
+count_on p count xs ys q r e = omega (arith, counts_append p count xs ys q, ap (count_from (count_along p count ys)) e)
 
 pub recounted : {d : Past} {runs takes more most : ℕ} (x : Thread) → CountsFit x d runs takes → runs ≡ more → takes ≡ most → CountsFit x d more most
 recounted x k e f = let i = k.instructions in let n = k.sections in record { instructions = omega (arith, i, e); sections = omega (arith, n, f) }
@@ -31,9 +28,6 @@ all_one zero t d = refl
 all_one (suc n) zero d = refl
 all_one (suc n) (suc t) d = all_one n t d
 
-fits_at_start : (c : MarkedProgram) (cfg : Config) (n : ℕ) → CountsFit (start_thread c cfg n) no_past 0 0
-fits_at_start c cfg zero = let none = part_extra (init_roots c.program) in record { instructions = omega (arith, none); sections = refl }
-fits_at_start c cfg (suc n) = record { instructions = refl; sections = refl }
-
 pub counted_at_start : (c : MarkedProgram) (cfg : Config) (t : ℕ) (x : Thread) → slice_get (start c cfg).threads t ≡ Some x → CountsFit x no_past 0 0
-counted_at_start c cfg t x e = subst (λ (z : Thread). CountsFit z no_past 0 0) (is_start_thread c cfg t x e) (fits_at_start c cfg t)
+counted_at_start c cfg t x e = subst (λ (z : Thread). CountsFit z no_past 0 0) (is_start_thread c cfg t x e) (elim t as (λ (n : ℕ). CountsFit (start_thread c cfg n) no_past 0 0)
+    [ zero ↦ record { instructions = omega (arith, part_extra (init_roots c.program)); sections = refl } | suc n ↦ record { instructions = refl; sections = refl } ])

@@ -25,14 +25,9 @@ others_keep_attempts may_do elements decided differ inside reach c cfg objects w
         let noted_then : IsAsNoted s.words a =
         noted_before c cfg objects was s t x turns.facts turns.thread u y there a e laws.sites turns.marked (subst (λ (words : List ℕ). IsAsNoted words a) (event_words its) noted) in
         let agrees_then : (z : ℕ) → Stays c own.stores objects w (next_free s) u a.monitor z → memory z ≡ Some (slice_index s.words z) =
-        λ z stays. agrees z (still_stays its u (still_own its u other) a.monitor z stays)
-        ∙ ap Some (still_word its u other laws y there a e z noted_then stays) in
+        λ z stays. agrees z (still_stays its u (still_own its u other) a.monitor z stays) ∙ ap Some (still_word its u other laws y there a e z noted_then stays) in
         subst (λ (phase : Phase). replayed c.program a.monitor memory d.due (at_entry y a ended) ≡ Some (at_present y a phase d.pending ended)) (sym (same_phase c was s t u other)) (before noted_then memory agrees_then ended)
 
     by_attempt : (o : Option Attempt) → y.attempt ≡ o → Owes c own.stores objects w s u (was u) y o d → Owes c after.stores (objects_after c.program s t objects) later (event c s t) u (counted_after c was s t u) y o d
     by_attempt None e owes = owes
-    by_attempt (Some a) e owes = (
-      subst (λ (phase : Phase). IsReadBegun phase d.pending)
-          (sym (same_phase c was s t u other)) owes.0,
-      leads a e owes.1,
-    )
+    by_attempt (Some a) e owes = (subst (λ (phase : Phase). IsReadBegun phase d.pending) (sym (same_phase c was s t u other)) owes.0, leads a e owes.1)

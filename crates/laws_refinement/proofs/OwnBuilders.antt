@@ -16,10 +16,8 @@ IsOwn w t r = (b : Builder) × (w r ≡ Some b) × (b.thread ≡ t)
 
 lost_own : (b : Builder) (t : ℕ) (o : Option Builder) (d : Builder) → lost_if b o ≡ Some d → d.thread ≡ t → (e : Builder) × (o ≡ Some e) × (e.thread ≡ t)
 lost_own b t None d e own = absurd (cc)
-lost_own b t (Some f) d e own = (elim (same_builder b f) as (λ (same : Bool). (if same then Some (record f { item = Lost }) else Some f) ≡ Some d → (e : Builder) × (Some f ≡ Some e) × (e.thread ≡ t)) [
-  | true ↦ λ e. let one : record f { item = Lost } ≡ d = same_some e in (f, refl, ap (λ (g : Builder). g.thread) one ∙ own)
-  | false ↦ λ e. let one : f ≡ d = same_some e in (f, refl, ap (λ (g : Builder). g.thread) one ∙ own)
-]) e
+lost_own b t (Some f) d e own = (elim (same_builder b f) as (λ (same : Bool). (if same then Some (record f { item = Lost }) else Some f) ≡ Some d → (e : Builder) × (Some f ≡ Some e) × (e.thread ≡ t))
+    [ true ↦ λ e. (f, refl, ap (λ (g : Builder). g.thread) (same_some e) ∙ own) | false ↦ λ e. (f, refl, ap (λ (g : Builder). g.thread) (same_some e) ∙ own) ]) e
 
 made_own : (w : World) (t a r height : ℕ) (item : Option Item) (d : Builder) → IsOwn w t a → made_world w a t height item r ≡ Some d → d.thread ≡ t → IsOwn w t r
 made_own w t a r height (Some item) d new e own = (elim (r == a) as (λ (same : Bool). (r == a) ≡ same → (if same then Some (builder t height item) else lost_if (builder t height item) (w r)) ≡ Some d → IsOwn w t r)
@@ -37,8 +35,7 @@ module _ (c : MarkedProgram) (frozen : ℕ → Bool) (own : Owning) (next t r cl
       let first : m ≡ method = same_some (sym there ∙ k.0.stands.at.in_program) in
       let second : n ≡ method = same_some (sym known ∙ k.0.stands.at.in_program) in
       let builds_it : builds frozen method ≡ true = both_true (is_init method) (frozen method.class) (ap is_init (sym first) ∙ init) (ap frozen (ap (λ (g : MethodInfo). g.class) (sym second) ∙ sym of_class) ∙ is_frozen) in
-      let begun : ReceiverIs w next t (length fs) true f.receiver = subst (λ (own : Bool). ReceiverIs w next t (length fs) own f.receiver) builds_it k.0.receiver in
-      (builder t (length fs) Begun, ap w (sym receiver) ∙ begun, refl)
+      (builder t (length fs) Begun, ap w (sym receiver) ∙ subst (λ (own : Bool). ReceiverIs w next t (length fs) own f.receiver) builds_it k.0.receiver, refl)
 
   phase_builds : (w : World) (phase : Phase) (fs : List Frame) → PhaseKeepsFrames c frozen own w next t phase fs → MakesObject c r fs → TopIsOf c.program class fs → IsOwn w t r
   phase_builds w (phases.Made a word) [] k makes top = absurd makes

@@ -108,8 +108,7 @@ module _ (fit : HeapWordsFit) (allowed : EffectsAreAllowed) (trying : Trying) (n
         let acted : (memory : ℕ → Option ℕ) (n : ℕ) (ended : List End) → replay_act c.program a.monitor memory (present (phases.Throw y class) n ended) Do (plain.Throw y class) ≡ Some (at_present (goes_on x its_onward) a now n ended) =
         λ memory n ended.
         ap (λ (o : Option Onward). goes (present (phases.Throw y class) n ended) (option_and_then (only_on a.monitor) o)) dispatches
-        ∙ ap (goes (present (phases.Throw y class) n ended)) alike.only
-        ∙ comes_there c x a now x its_onward a.inner alike (plain.Throw y class) ended n in
+        ∙ ap (goes (present (phases.Throw y class) n ended)) alike.only ∙ comes_there c x a now x its_onward a.inner alike (plain.Throw y class) ended n in
         let its_grown : Grown (phases.Throw y class) (goes_on x its_onward) (Do ∷ []) =
         grown c x a now x its_onward a.inner alike Keeps s.words (was t) (phases.Throw y class) Do counted tries (λ memory knows n some ended. acted memory n ended) in
         subst (λ (o : Option Onward). Grown (phases.Throw y class) (goes_on_if x o) (Do ∷ [])) (sym dispatches) its_grown
@@ -155,8 +154,7 @@ module _ (fit : HeapWordsFit) (allowed : EffectsAreAllowed) (trying : Trying) (n
           let z : Alone = present (phases.Leave m e) begun ended in
           ap (λ (b : Bool). cond b (leaves c.program z e (suc a.inner)) None) (same_number m a.monitor (inside_as trying (phases.Leave m e) counted))
           ∙ ap (λ (depth : ℕ). leaves c.program z e (suc depth)) inner
-          ∙ ap (goes (record z { depth = suc n })) goes_there.1
-          ∙ comes_there c x a now shallower goes_there.0 n alike (plain.Leave m e) ended begun in
+          ∙ ap (goes (record z { depth = suc n })) goes_there.1 ∙ comes_there c x a now shallower goes_there.0 n alike (plain.Leave m e) ended begun in
           let its_grown : Grown (phases.Leave m e) (goes_on shallower goes_there.0) (Exit ∷ []) =
           grown c x a now shallower goes_there.0 n alike Keeps s.words (was t) (phases.Leave m e) Exit counted refl (λ memory knows begun some ended. acted memory begun ended) in
           subst (λ (o : Option Onward). Grown (phases.Leave m e) (goes_on_if shallower o) (Exit ∷ [])) (sym goes_there.1) its_grown
@@ -186,8 +184,7 @@ module _ (fit : HeapWordsFit) (allowed : EffectsAreAllowed) (trying : Trying) (n
 
     its_element : Element c objects x word stored
     its_element = element_in c objects s x marked facts.heap word stored x.frames refl frames_hold.0
-        frames_hold.1 (facts.heap.typed.elements t x word stored here is_as)
-        (stands_as trying (phases.Element word stored) counted).phase_shows
+        frames_hold.1 (facts.heap.typed.elements t x word stored here is_as) (stands_as trying (phases.Element word stored) counted).phase_shows
 
   module _ (word : ℕ) (is_as : x.phase ≡ phases.Element word None)
       (counted : was t ≡ phases.Element word None) (known : AtElement c x a None) where
@@ -195,70 +192,42 @@ module _ (fit : HeapWordsFit) (allowed : EffectsAreAllowed) (trying : Trying) (n
     k = its_element word None is_as counted
 
     abbrev read_on : Onward
-    read_on = Running (went_on c.program (its_element word None is_as counted).at
-        (slice_index s.words word))
+    read_on = Running (went_on c.program (its_element word None is_as counted).at (slice_index s.words word))
 
     abbrev frames_keep : PhaseKeepsFrames c trying.frozen trying.owning (trying.con.each t x here).now (next_free s) t (phases.Element word None) x.frames
     frames_keep = frames_as trying (phases.Element word None) counted
 
     element_there : Keeps word
-    element_there = element_stays trying frames_keep k.at k.found word
-        (top_array c trying.frozen trying.owning (trying.con.each t x here).now (next_free s) t objects word marked
-        x.frames k.at frames_keep (frames_hold word None is_as counted).1
-        (stands_as trying (phases.Element word None) counted).phase_shows
-        (facts.heap.typed.elements t x word None here is_as)
-        (frames_hold word None is_as counted).0 k.found)
-        (subst (TakesOwned c a.monitor) (same_some (sym known.found ∙ k.found)) known.owned)
+    element_there = element_stays trying frames_keep k.at k.found word (top_array c trying.frozen trying.owning (trying.con.each t x here).now (next_free s) t objects word marked
+        x.frames k.at frames_keep (frames_hold word None is_as counted).1 (stands_as trying (phases.Element word None) counted).phase_shows (facts.heap.typed.elements t x word None here is_as)
+        (frames_hold word None is_as counted).0 k.found) (subst (TakesOwned c a.monitor) (same_some (sym known.found ∙ k.found)) known.owned)
 
-    moves : goes_on_if x (option_map (λ at. Running
-        (went_on c.program at (slice_index s.words word))) (top_of c.program x.frames)) ≡ goes_on x
+    moves : goes_on_if x (option_map (λ at. Running (went_on c.program at (slice_index s.words word))) (top_of c.program x.frames)) ≡ goes_on x
         read_on
-    moves = ap (λ (o : Option Top). goes_on_if x
-        (option_map (λ at. Running (went_on c.program at (slice_index s.words word))) o)) k.found
+    moves = ap (λ (o : Option Top). goes_on_if x (option_map (λ at. Running (went_on c.program at (slice_index s.words word))) o)) k.found
 
-    read_grows : IsStructured c now (goes_on x read_on)
-        → Grown (phases.Element word None) (goes_on x read_on) (Do ∷ [])
+    read_grows : IsStructured c now (goes_on x read_on) → Grown (phases.Element word None) (goes_on x read_on) (Do ∷ [])
     read_grows stands_so =
-        let alike : GoesAlike c x a now x read_on =
-        going_alike c x a now x a.inner refl attempt_stands.based read_on tries
-        (steps_kept c.program x.frames a k.at (Reads (Static 0))
+        let alike : GoesAlike c x a now x read_on = going_alike c x a now x a.inner refl attempt_stands.based read_on tries (steps_kept c.program x.frames a k.at (Reads (Static 0))
         (slice_index s.words word) read_on k.found refl) stands_so in
         let found_there : (memory : ℕ → Option ℕ) → Knows Keeps s.words memory → reads_only c.program memory k.at (Indexes k.array k.index None) (slice_index s.words (header_word k.array)) ≡ Some read_on =
         λ memory knows.
-        ap (λ (b : Bool). if b then option_map (λ v. Running (went_on c.program k.at v))
-        (memory (value_word k.array (low k.index))) else Some
-        (threw ArrayIndexOutOfBoundsException k.at))
-        (has_element c objects s x marked facts.heap word None k)
-        ∙ ap (λ (n : ℕ). option_map (λ v. Running (went_on c.program k.at v)) (memory n))
-        (sym k.word_is)
+        ap (λ (b : Bool). if b then option_map (λ v. Running (went_on c.program k.at v)) (memory (value_word k.array (low k.index))) else Some (threw ArrayIndexOutOfBoundsException k.at))
+        (has_element c objects s x marked facts.heap word None k) ∙ ap (λ (n : ℕ). option_map (λ v. Running (went_on c.program k.at v)) (memory n)) (sym k.word_is)
         ∙ ap (option_map (λ v. Running (went_on c.program k.at v))) (knows word element_there) in
         let acted : (memory : ℕ → Option ℕ) → Knows Keeps s.words memory → (n : ℕ) → 0 < n → (ended : List End) → replay_act c.program a.monitor memory (present (phases.Element word None) n ended) Do plain.Run ≡ Some (at_present (goes_on x read_on) a now n ended) =
         λ memory knows n some ended.
         let z : Alone = present (phases.Element word None) n ended in
         let more : Alone = record z { begun = n - 1 + 1 } in
-        ap (instructs c.program a.monitor memory z) k.found
-        ∙ ap (λ (e : Effect). goes more (option_and_then
-        (λ word. option_and_then (only_on a.monitor)
-        (reads_only c.program memory k.at e word)) (got_by memory (read_by e)))) k.effect_is
-        ∙ ap (λ (o : Option ℕ). goes more
-        (option_and_then (λ word. option_and_then (only_on a.monitor)
-        (reads_only c.program memory k.at (Indexes k.array k.index None) word)) o))
-        (knows (header_word k.array) (header_stays trying frames_keep k.at k.found INT_ARRAY_CLASS k.array k.is_array))
-        ∙ ap (λ (o : Option Onward). goes more (option_and_then (only_on a.monitor) o))
-        (found_there memory knows)
-        ∙ ap (goes more) alike.only
-        ∙ ap (λ (k : ℕ). goes (record z { begun = k }) (Some read_on)) (omega (arith, some))
-        ∙ comes_there c x a now x read_on a.inner alike plain.Run ended n in
+        ap (instructs c.program a.monitor memory z) k.found ∙ ap (λ (e : Effect). goes more (option_and_then (λ word. option_and_then (only_on a.monitor)
+        (reads_only c.program memory k.at e word)) (got_by memory (read_by e)))) k.effect_is ∙ ap (λ (o : Option ℕ). goes more (option_and_then (λ word. option_and_then (only_on a.monitor)
+        (reads_only c.program memory k.at (Indexes k.array k.index None) word)) o)) (knows (header_word k.array) (header_stays trying frames_keep k.at k.found INT_ARRAY_CLASS k.array k.is_array))
+        ∙ ap (λ (o : Option Onward). goes more (option_and_then (only_on a.monitor) o)) (found_there memory knows)
+        ∙ ap (goes more) alike.only ∙ ap (λ (k : ℕ). goes (record z { begun = k }) (Some read_on)) (omega (arith, some)) ∙ comes_there c x a now x read_on a.inner alike plain.Run ended n in
         grown c x a now x read_on a.inner alike Keeps s.words (was t) (phases.Element word None) Do counted tries acted
 
     read_inside : EventInside (phases.Element word None)
-    read_inside stands_so = subst (λ (y : Thread). Grown (phases.Element word None) y (Do ∷ []))
-        (sym moves) (read_grows (subst (IsStructured c now) moves stands_so))
-
-  element_inside : (word : ℕ) (stored : Option ℕ) → x.phase ≡ phases.Element word stored
-      → was t ≡ phases.Element word stored → AtElement c x a stored → EventInside (phases.Element word stored)
-  element_inside word None e k known = read_inside word e k known
-  element_inside word (Some v) e k known = absurd (let bad : Some v ≡ None = known.read in cc)
+    read_inside stands_so = subst (λ (y : Thread). Grown (phases.Element word None) y (Do ∷ [])) (sym moves) (read_grows (subst (IsStructured c now) moves stands_so))
 
   -- ---- a limit
 
@@ -287,7 +256,8 @@ module _ (fit : HeapWordsFit) (allowed : EffectsAreAllowed) (trying : Trying) (n
   by_phase (phases.Leave m after) e k known = subst (LeaveBy m after k known) (sym known) (by_inner m after k known a.inner refl)
   by_phase (phases.Ending reason) e k known = λ l. limited reason (phases.Ending reason) (phases.Ended reason) (refl, tt) (λ n. refl) k l.is_as
   by_phase (phases.Ended reason) e k known = λ l. limited reason (phases.Ended reason) x.phase (refl, tt) (λ n. refl) k (subst (λ (phase : Phase). IsAs phase now) e l.is_as)
-  by_phase (phases.Element word stored) e k known = element_inside word stored e k known
+  by_phase (phases.Element word None) e k known = read_inside word e k known
+  by_phase (phases.Element word (Some v)) e k known = absurd (let bad : Some v ≡ None = known.read in cc)
   by_phase phase e k known = absurd known
 
   pub event_inside : EventInside x.phase

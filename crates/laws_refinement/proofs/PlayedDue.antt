@@ -18,11 +18,7 @@ played p q t m [] more x y f some e =
     let here : q ≡ stands_as q t m y = same_some (replay.played p q t m [] x y f some (ap Some (same_some e))) in
     let runs : count_along p (run_at t) (steps_of t more) q ≡ count_along p (run_at t) (steps_of t more) (stands_as q t m y) = ap (λ (r : Plain). count_along p (run_at t) (steps_of t more) r) here in
     let begun : x.begun ≡ y.begun = ap (λ (z : Alone). z.begun) (same_some e) in
-    record {
-      run = ap (λ (r : Plain). plain_run p r (steps_of t more)) here;
-      runs = omega (arith, runs, begun);
-      takes = ap (λ (r : Plain). count_along p (take_at t) (steps_of t more) r) here;
-    }
+    record { run = ap (λ (r : Plain). plain_run p r (steps_of t more)) here; runs = omega (arith, runs, begun); takes = ap (λ (r : Plain). count_along p (take_at t) (steps_of t more) r) here }
 played p q t m (act ∷ due) more x y f some e =
     next (replay_act p m (value_at q) x act x.thread.status) refl e (λ z g. played p (stands_as q t m z) t m due more z y (stands_after q t m x.thread z f.thread) some g)
   where
@@ -35,9 +31,7 @@ played p q t m (act ∷ due) more x y f some e =
         record {
           run = ap (λ (o : Option Plain). option_and_then (λ r. plain_run p r (steps_of t (due ++ more))) o) to ∙ (on z g).run ∙ ap (λ (r : Plain). plain_run p r (steps_of t more)) twice;
           runs = ap (λ (o : Option Plain). run_at t q (record { thread = t; act = act }) + count_from (count_along p (run_at t) (steps_of t (due ++ more))) o + x.begun) to
-              ∙ (omega (arith, (does p q t m x z act f some k).runs, (on z g).runs))
-              ∙ ap (λ (r : Plain). count_along p (run_at t) (steps_of t more) r + y.begun) twice;
+              ∙ (omega (arith, (does p q t m x z act f some k).runs, (on z g).runs)) ∙ ap (λ (r : Plain). count_along p (run_at t) (steps_of t more) r + y.begun) twice;
           takes = ap (λ (o : Option Plain). take_at t q (record { thread = t; act = act }) + count_from (count_along p (take_at t) (steps_of t (due ++ more))) o) to
-              ∙ (omega (arith, (does p q t m x z act f some k).takes, (on z g).takes))
-              ∙ ap (λ (r : Plain). count_along p (take_at t) (steps_of t more) r) twice;
+              ∙ (omega (arith, (does p q t m x z act f some k).takes, (on z g).takes)) ∙ ap (λ (r : Plain). count_along p (take_at t) (steps_of t more) r) twice;
         }

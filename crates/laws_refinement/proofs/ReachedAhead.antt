@@ -17,8 +17,7 @@ sum_within f [] ns apart there = omega arith
 sum_within f (q ∷ parts) ns apart there =
     let m : IsWithout f q.method ns = without f q.method ns (there q.method (0, q, refl, refl)) in
     let more : sum_by (λ (r : Part). f r.method) parts ≤ sum_by f m.rest = sum_within f parts m.rest apart.1 (λ u among. m.others u (differs parts u apart.0 among) (there u (suc among.0, among.1, among.2, among.3))) in
-    let sum = m.sum in
-    omega (arith, more, sum, sum_by-cons (λ (r : Part). f r.method) q parts)
+    omega (arith, more, m.sum, sum_by-cons (λ (r : Part). f r.method) q parts)
   where
     differs : (rest : List Part) (u : ℕ) → HasNone q.method rest → (k : ℕ) × (part : Part) × (slice_get rest k ≡ Some part) × (part.method ≡ u) → u ≢ q.method
     differs [] u none (k, part, e, is) = absurd (cc)
@@ -72,30 +71,24 @@ counted_inside p base (f ∷ fs) = by_test (counted_inside p base fs) (nat_le ba
 
 frames_few : (c : MarkedProgram) (fs : List Frame) (parts : List Part) → AllZip (IsPart c) fs parts → sum_by (ahead c.program) fs ≤ sum_by (λ (q : Part). size_at c.program q.method) parts
 frames_few c [] [] zip = omega arith
-frames_few c [] (q ∷ parts) zip = absurd zip
-frames_few c (f ∷ fs) [] zip = absurd zip
 frames_few c (f ∷ fs) (q ∷ parts) zip =
     let same : size_at c.program q.method ≡ size_at c.program f.method = ap (λ (r : Part). size_at c.program r.method) zip.0.1 in
     omega (arith, same, frame_few c.program f, frames_few c fs parts zip.1, sum_by-cons (ahead c.program) f fs, sum_by-cons (λ (r : Part). size_at c.program r.method) q parts)
+frames_few c fs parts zip = absurd zip
 
 module _ (apart : ApartLaw) (c : MarkedProgram) (n : ℕ) (a : Attempt) (reach : IsReach c.program a.entry.method n) where
   in_section : (phase : Phase) (fs : List Frame) (held : List Held) → AttemptStands c phase fs held a → RunsSection c a (frames_inside a fs) → sum_by (ahead c.program) (frames_inside a fs) ≤ n
   in_section phase fs held k run =
       let distinct : HaveOwnMethods run.0 = apart c.program (tags_of c) k.uses (section_of a) a.entry.receiver run.0 run.1 k.marked run.3 in
-      let within : sum_by (λ (q : Part). size_at c.program q.method) run.0 ≤ sum_by (size_at c.program) reach.methods =
-      sum_within (size_at c.program) run.0 reach.methods distinct
+      let within : sum_by (λ (q : Part). size_at c.program q.method) run.0 ≤ sum_by (size_at c.program) reach.methods = sum_within (size_at c.program) run.0 reach.methods distinct
       (λ u among. let calls = each_reached c.program (tags_of c) (section_of a) a.entry.receiver run.0 run.1 run.3 among.0 among.1 among.2 in reach.all u calls.0 (subst (λ (v : ℕ). HasCalls c.program a.entry.method calls.0 v) among.3 calls.1)) in
-      let count = reach.count in
-      omega (arith, frames_few c (frames_inside a fs) run.0 run.2, within, count)
+      omega (arith, frames_few c (frames_inside a fs) run.0 run.2, within, reach.count)
 
   at_exit : (phase : Phase) (fs : List Frame) → Finishes a phase fs → sum_by (ahead c.program) fs ≤ n
   at_exit phase fs k =
-      let own : Contains reach.methods a.entry.method = reach.all a.entry.method [] refl in
-      let m : IsWithout (size_at c.program) a.entry.method reach.methods = without (size_at c.program) a.entry.method reach.methods own in
       let few : ahead c.program k.frame ≤ size_at c.program a.entry.method = subst (λ (u : ℕ). ahead c.program k.frame ≤ size_at c.program u) k.method (frame_few c.program k.frame) in
-      let sum = m.sum in
-      let count = reach.count in
-      subst (λ (gs : List Frame). sum_by (ahead c.program) gs ≤ n) (sym k.alone) (omega (arith, few, sum, count))
+      let sum = (without (size_at c.program) a.entry.method reach.methods (reach.all a.entry.method [] refl)).sum in
+      subst (λ (gs : List Frame). sum_by (ahead c.program) gs ≤ n) (sym k.alone) (omega (arith, few, sum, reach.count))
 
   pub reached_ahead : (phase : Phase) (fs : List Frame) (held : List Held) → AttemptStands c phase fs held a → all_ahead c.program a.base fs ≤ n
   reached_ahead phase fs held k = rw (counted_inside c.program a.base fs) ((elim k.frames [ inl exit ↦ at_exit phase (frames_inside a fs) exit | inr run ↦ in_section phase fs held k run ]))

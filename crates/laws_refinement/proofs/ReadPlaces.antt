@@ -29,8 +29,7 @@ pub record GetsField (p : Program) (tags : Tagged) (mode : Mode) (o number : ℕ
 
 no_static : (p : Program) (number : ℕ) (row_of : Option FieldInfo → OpRow) (r : OpRow) (f : FieldInfo) → slice_get p.fields number ≡ Some f → is_static f.flags ≡ false → NamesField p number true row_of r → ⊥
 no_static p number row_of r f there instance k =
-    let static : is_static f.flags ≡ true = ap (λ (g : FieldInfo). is_static g.flags) (same_some (sym there ∙ k.there)) ∙ k.sort in
-    let bad : true ≡ false = sym static ∙ instance in
+    let bad : true ≡ false = sym (ap (λ (g : FieldInfo). is_static g.flags) (same_some (sym there ∙ k.there)) ∙ k.sort) ∙ instance in
     cc
 
 pub gets_field : (p : Program) (tags : Tagged) (site : MethodSite) (pc : ℕ) (mode : Mode) (o mi i number : ℕ) (f : FieldInfo) (op : Op) (r : OpRow) (stack : List ℕ) → slice_get p.fields number ≡ Some f → is_static f.flags ≡ false

@@ -57,11 +57,11 @@ next_keeps c s t failed parts k = record { few = k.few; kept = kept }
 -- ---- every run
 
 start_keeps : (c : MarkedProgram) (cfg : Config) (t : ℕ) → HasFailedCount (start c cfg) t 0
-start_keeps c cfg t = record { few = omega arith; kept = λ x e. subst (λ (z : Thread). KeepsCount z.attempt z.phase 0) (is_start_thread c cfg t x e) (by_number t) }
-  where
-    by_number : (n : ℕ) → KeepsCount (start_thread c cfg n).attempt (start_thread c cfg n).phase 0
-    by_number zero = at_root 0 None Idle (init_roots c.program) tt
-    by_number (suc n) = tt
+start_keeps c cfg t = record {
+  few = omega arith;
+  kept = λ x e. subst (λ (z : Thread). KeepsCount z.attempt z.phase 0) (is_start_thread c cfg t x e)
+      (elim t as (λ (n : ℕ). KeepsCount (start_thread c cfg n).attempt (start_thread c cfg n).phase 0) [ zero ↦ at_root 0 None Idle (init_roots c.program) tt | suc n ↦ tt ]);
+}
 
 module _ (may_do : InsideMayDo) (elements : ElementsInside) (runs : RunsHaveState) (c : MarkedProgram) (cfg : Config) (marked : IsMarked c) (width : HaveWidth cfg) (parts : PartsKeepThreads c cfg) (t : ℕ) where
   one : (s : Core) (failed : ℕ) (h : Happening) → IsInState c cfg s → HasFailedCount s t failed → HasFailedCount (happened c s h) t (failed_with c s t failed h)

@@ -51,11 +51,9 @@ came_from p (x ∷ workers) t z fits e = (elim (may_begin (x ∷ workers)) as (�
 
 pub counted_same : (x z : Thread) (d : Past) (runs takes : ℕ) → x.attempt ≡ None → SameCounts x z → CountsFit x d runs takes → CountsFit z d runs takes
 counted_same x z d runs takes outside same fit =
-    let i : z.counts.instructions ≡ x.counts.instructions = ap (λ (k : Counts). k.instructions) same.counts in
-    let elided : z.counts.elided ≡ x.counts.elided = ap (λ (k : Counts). k.elided) same.counts in
     let locked : z.counts.locked ≡ x.counts.locked = ap (λ (k : Counts). k.locked) same.counts in
     let extra : extra_of z.attempt z.phase ≡ extra_of x.attempt x.phase =
     ap (λ (a : Option Attempt). extra_of a z.phase) (same.attempt ∙ outside) ∙ same.extra ∙ ap (λ (a : Option Attempt). extra_of a x.phase) (sym outside) in
     let instructions = fit.instructions in
     let sections = fit.sections in
-    record { instructions = omega (arith, i, extra, instructions); sections = omega (arith, elided, locked, sections) }
+    record { instructions = omega (arith, ap (λ (k : Counts). k.instructions) same.counts, extra, instructions); sections = omega (arith, ap (λ (k : Counts). k.elided) same.counts, locked, sections) }

@@ -14,18 +14,13 @@ module _ (c : MarkedProgram) (cfg : Config) where
   is_idle u (Some x) e = ap (λ (y : Thread). is_live_thread (Some y)) (sym (is_start_thread c cfg (suc u) x e))
 
   start_fits : IsAlone (λ n. n ≡ 0) (start c cfg)
-  start_fits = record {
-    part = λ x e. ap (λ (y : Thread). y.part) (sym (is_start_thread c cfg 0 x e));
-    workers = λ u. is_idle u (slice_get (start c cfg).threads (suc u)) refl;
-  }
+  start_fits = record { part = λ x e. ap (λ (y : Thread). y.part) (sym (is_start_thread c cfg 0 x e)); workers = λ u. is_idle u (slice_get (start c cfg).threads (suc u)) refl }
 
 -- ---- the list
 
 ends_over : GivenIsKept → (c : MarkedProgram) (stage : Stage) (s : Core) (hs : List Happening) → StageFits stage s → IsSchedule c stage s hs → IsOver (all_happened c s hs)
 ends_over given c stage s [] h none = subst (TurnFits c s) none (turn_fits given c s stage h)
-ends_over given c stage s (k ∷ hs) h turns =
-    let next : StageFits turns.0 (happened c s k) = subst (TurnFits c s) turns.1 (turn_fits given c s stage h) in
-    ends_over given c turns.0 (happened c s k) hs next turns.2
+ends_over given c stage s (k ∷ hs) h turns = ends_over given c turns.0 (happened c s k) hs (subst (TurnFits c s) turns.1 (turn_fits given c s stage h)) turns.2
 
 pub schedules_end_over : GivenIsKept → SchedulesEndOver
 unfolding core

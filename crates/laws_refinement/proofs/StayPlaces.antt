@@ -40,7 +40,6 @@ top_reads c [] held a at marked k s e = absurd (cc)
 top_reads c (f ∷ below) held a at marked k s e =
     let r = runs_inside c phases.Run f below held a k (not_finished a (frames_inside a (f ∷ below))) in
     let shows = top_shows c marked Whole f below s.shown s.show in
-    let this = stack_this c marked f r.stands shows.0 shows.1 in
     let l = r.stands in
     let one : TopReads c a.monitor (top_here c f below l) = record {
       row = row_stands c marked f.method l.number l.method l.insn l.target l.tags l.at;
@@ -48,7 +47,7 @@ top_reads c (f ∷ below) held a at marked k s e =
       o = a.entry.receiver;
       on = on_object c marked a k.monitor f (frames_inside a below) r;
       number = l.number;
-      only = reads c marked a k.uses k.are_uses k.marked f (frames_inside a below) r f.stack this;
+      only = reads c marked a k.uses k.are_uses k.marked f (frames_inside a below) r f.stack (stack_this c marked f r.stands shows.0 shows.1);
     } in
     subst (λ (top : Top). TopReads c a.monitor top) (top_at_standing c marked f below l at e) one
 
@@ -59,8 +58,7 @@ pub record TopSlots (c : MarkedProgram) (frozen : ℕ → Bool) (own : Owning) (
   pub types : TypeFrame
   pub tags : TagShape
   pub receiver : ReceiverIs now next t height (builds frozen at.method) at.frame.receiver
-  pub stack : StackWith (SlotOf frozen now next t height Runs at.method at.frame.receiver)
-      (λ v. now v ≡ Some (builder t height Unstored))
+  pub stack : StackWith (SlotOf frozen now next t height Runs at.method at.frame.receiver) (λ v. now v ≡ Some (builder t height Unstored))
       (puts_owned own.owned at.insn.op at.target) types.stack tags.stack at.frame.stack
   pub suit : mistypes at.method (top_row c.program at) types ≡ false
 
@@ -105,11 +103,9 @@ pub record TopArray (c : MarkedProgram) (stores : Stores) (objects : List Object
   pub stands : Standing c at.frame
   pub type : VType
   pub slot : IsArraySlot c stores at.frame stands.number 1 type array
-  pub on : is_static stands.method.flags ≡ false
-      → HasClass objects stands.method.class at.frame.receiver
+  pub on : is_static stands.method.flags ≡ false → HasClass objects stands.method.class at.frame.receiver
 
-second : (Is : VType → Tag → (v : ℕ) → Type 0) (On : (place : ℕ) → VType → (v : ℕ) → Type 0)
-    (ts : List VType) (gs : List Tag) (i a : ℕ) (rest : List ℕ) → SlotsAre Is ts gs (i ∷ a ∷ rest)
+second : (Is : VType → Tag → (v : ℕ) → Type 0) (On : (place : ℕ) → VType → (v : ℕ) → Type 0) (ts : List VType) (gs : List Tag) (i a : ℕ) (rest : List ℕ) → SlotsAre Is ts gs (i ∷ a ∷ rest)
     → SlotsFrom On 0 ts (i ∷ a ∷ rest) → (type : VType) × On 1 type a
 second Is On (first ∷ type ∷ ts) (g ∷ h ∷ gs) i a rest are on = (type, on.1.0)
 second Is On (first ∷ []) (g ∷ []) i a rest are on = absurd are.1
@@ -122,29 +118,19 @@ element_reads op e = absurd (let bad : false ≡ true = e in cc)
 
 module _ (c : MarkedProgram) (frozen : ℕ → Bool) (own : Owning) (now : World) (next t : ℕ)
     (objects : List Object) (word : ℕ) (marked : IsMarked c) where
-  by_stack : (f : Frame) (below : List Frame) (stack : List ℕ) → f.stack ≡ stack
-      → FramesKeep c frozen own now next t Runs (f ∷ below)
-      → FramesHold c (HasClass objects) (f ∷ below) → TopIs c (is_element_op None) (f ∷ below)
-      → HasElementOn objects None stack → IsElementOn word None stack
+  by_stack : (f : Frame) (below : List Frame) (stack : List ℕ) → f.stack ≡ stack → FramesKeep c frozen own now next t Runs (f ∷ below)
+      → FramesHold c (HasClass objects) (f ∷ below) → TopIs c (is_element_op None) (f ∷ below) → HasElementOn objects None stack → IsElementOn word None stack
       → (l : Standing c f) → TopArray c own.stores objects word (top_here c f below l)
   by_stack f below (i ∷ a ∷ rest) is keep holds top has on l =
       let k = keep.0.stands in
-      let op : k.insn.op ≡ Iaload = element_reads k.insn.op
-      (ap (λ (insn : Insn). is_element_op None insn.op) (one_insn c marked f k top.0) ∙ top.1)
-      in
+      let op : k.insn.op ≡ Iaload = element_reads k.insn.op (ap (λ (insn : Insn). is_element_op None insn.op) (one_insn c marked f k top.0) ∙ top.1) in
       let are : SlotsAre (SlotOf frozen now next t (length below) Runs k.method f.receiver)
-      k.types.stack k.tags.stack f.stack =
-      subst (λ (q : Op). StackWith (SlotOf frozen now next t
-      (length below) Runs k.method f.receiver)
-      (λ v. now v ≡ Some (builder t (length below) Unstored))
+      k.types.stack k.tags.stack f.stack = subst (λ (q : Op). StackWith (SlotOf frozen now next t (length below) Runs k.method f.receiver) (λ v. now v ≡ Some (builder t (length below) Unstored))
       (puts_owned own.owned q k.target) k.types.stack k.tags.stack f.stack) op keep.0.stack in
-      let slot = second (SlotOf frozen now next t (length below) Runs k.method f.receiver)
-      (IsArraySlot c own.stores f k.number) k.types.stack k.tags.stack i a rest
-      (subst (λ (vs : List ℕ). SlotsAre (SlotOf frozen now next t
-      (length below) Runs k.method f.receiver) k.types.stack k.tags.stack vs) is are)
+      let slot = second (SlotOf frozen now next t (length below) Runs k.method f.receiver) (IsArraySlot c own.stores f k.number) k.types.stack k.tags.stack i a rest
+      (subst (λ (vs : List ℕ). SlotsAre (SlotOf frozen now next t (length below) Runs k.method f.receiver) k.types.stack k.tags.stack vs) is are)
       (subst (λ (vs : List ℕ). SlotsFrom (IsArraySlot c own.stores f k.number) 0 k.types.stack vs)
       is keep.0.arrays) in
-      let one = one_standing c marked f holds.0.stands k in
       record {
         array = a;
         index = i;
@@ -153,19 +139,14 @@ module _ (c : MarkedProgram) (frozen : ℕ → Bool) (own : Owning) (now : World
         stands = k;
         type = slot.0;
         slot = slot.1;
-        on = subst (λ (m : MethodInfo). is_static m.flags ≡ false
-            → HasClass objects m.class f.receiver) one.method holds.0.receiver;
+        on = subst (λ (m : MethodInfo). is_static m.flags ≡ false → HasClass objects m.class f.receiver) (one_standing c marked f holds.0.stands k).method holds.0.receiver;
       }
   by_stack f below stack is keep holds top has on l = absurd on
 
-  pub top_array : (fs : List Frame) (at : Top) → FramesKeep c frozen own now next t Runs fs
-      → FramesHold c (HasClass objects) fs → TopIs c (is_element_op None) fs
-      → HasElementIn objects None fs → ElementStands word None fs → top_of c.program fs ≡ Some at
-      → TopArray c own.stores objects word at
+  pub top_array : (fs : List Frame) (at : Top) → FramesKeep c frozen own now next t Runs fs → FramesHold c (HasClass objects) fs → TopIs c (is_element_op None) fs
+      → HasElementIn objects None fs → ElementStands word None fs → top_of c.program fs ≡ Some at → TopArray c own.stores objects word at
   top_array [] at keep holds top has on e = absurd top
-  top_array (f ∷ below) at keep holds top has on e =
-      subst (λ (q : Top). TopArray c own.stores objects word q)
-      (same_some (sym (stand_top c marked f below keep.0.stands) ∙ e))
+  top_array (f ∷ below) at keep holds top has on e = subst (λ (q : Top). TopArray c own.stores objects word q) (same_some (sym (stand_top c marked f below keep.0.stands) ∙ e))
       (by_stack f below f.stack refl keep holds top has on keep.0.stands)
 
 -- ---- the object that is read
@@ -293,30 +274,25 @@ module _ (trying : Trying) (frames_keep : FramesKeep trying.c trying.frozen tryi
   header_stays class v k = attempts.header k.2.0 k.2.1 (ap header_word (sym k.2.2))
 
   -- an element of an array that the monitor's object owns
-  pub element_stays : (word : ℕ) → TopArray c own.stores objects word at → TakesOwned c a.monitor at
-      → Stays c own.stores objects w next t a.monitor word
-  element_stays word k o = attempts.element coloured.fi object.0 coloured.owned object.1
-      (object.2 ∙ o.receiver) (record {
-        field_word = field_word;
-        is_field = record { field = coloured.owned.field; is = coloured.owned.is; place = refl };
-        of_class = object.3 ∙ coloured_class c marked at.frame k.stands 1 coloured;
-        array = k.element.object;
-        there = k.element.there;
-        stored = ap own.stores k.element.is ∙ stored
-            (k.slot.owned coloured field_word (record {
-              field = coloured.owned.field;
-              is = coloured.owned.is;
-              place = ap
-                  (λ (r : ℕ). value_word r coloured.owned.field.index) object.2;
-            }));
-        index = k.index;
-        inside = k.element.below;
-        place = k.word_is ∙ ap (λ (r : ℕ). value_word r k.index) (sym k.element.is);
-      })
+  pub element_stays : (word : ℕ) → TopArray c own.stores objects word at → TakesOwned c a.monitor at → Stays c own.stores objects w next t a.monitor word
+  element_stays word k o = attempts.element coloured.fi object.0 coloured.owned object.1 (object.2 ∙ o.receiver) (record {
+    field_word = field_word;
+    is_field = record { field = coloured.owned.field; is = coloured.owned.is; place = refl };
+    of_class = object.3 ∙ coloured_class c marked at.frame k.stands 1 coloured;
+    array = k.element.object;
+    there = k.element.there;
+    stored = ap own.stores k.element.is ∙ stored (k.slot.owned coloured field_word (record {
+      field = coloured.owned.field;
+      is = coloured.owned.is;
+      place = ap (λ (r : ℕ). value_word r coloured.owned.field.index) object.2;
+    }));
+    index = k.index;
+    inside = k.element.below;
+    place = k.word_is ∙ ap (λ (r : ℕ). value_word r k.index) (sym k.element.is);
+  })
     where
       coloured : IsOwnedAt c.program (tags_of c) at.frame.method k.stands.number 1
-      coloured = subst (λ (number : ℕ). IsOwnedAt c.program (tags_of c) at.frame.method number 1)
-          (one_standing c marked at.frame o.stands k.stands).number o.owned
+      coloured = subst (λ (number : ℕ). IsOwnedAt c.program (tags_of c) at.frame.method number 1) (one_standing c marked at.frame o.stands k.stands).number o.owned
 
       object : HasClass objects k.stands.method.class at.frame.receiver
       object = k.on (coloured_instance c marked at.frame k.stands 1 coloured)
@@ -325,9 +301,7 @@ module _ (trying : Trying) (frames_keep : FramesKeep trying.c trying.frozen tryi
       field_word = value_word object.0.reference coloured.owned.field.index
 
       some : 0 < k.array
-      some = let begins = facts.heap.apart.begin k.element.there.0 k.element.object
-          (contained_got objects k.element.object k.element.there) in omega
-          (arith, begins, k.element.is)
+      some = let begins = facts.heap.apart.begin k.element.there.0 k.element.object (contained_got objects k.element.object k.element.there) in omega (arith, begins, k.element.is)
 
       stored : IsStoredAt own.stores field_word k.array → own.stores k.array ≡ Some field_word
       stored (inl null) = absurd (omega (arith, some, null))

@@ -24,8 +24,7 @@ module _ (its : Event) where
     still_field : (fi z : ℕ) (o : Object) → IsFieldAt c objects w (next_free s) u fi z o → IsFieldAt c (objects_after c.program s t objects) later (next_free (event c s t)) u fi z o
     still_field fi z o k = record { there = still_object o k.there; field = k.field; is = k.is; of_class = k.of_class; known = known o.reference k.known; place = k.place }
 
-    still_element : (fi z : ℕ) (o : Object) → IsElementOf c own.stores objects fi o z
-        → IsElementOf c own_after.stores (objects_after c.program s t objects) fi o z
+    still_element : (fi z : ℕ) (o : Object) → IsElementOf c own.stores objects fi o z → IsElementOf c own_after.stores (objects_after c.program s t objects) fi o z
     still_element fi z o k = record {
       field_word = k.field_word;
       is_field = k.is_field;
@@ -42,7 +41,6 @@ module _ (its : Event) where
     still_stays m z (header o there at) = header o (still_object o there) at
     still_stays m z (frozen fi o is k) = frozen fi o is (still_field fi z o k)
     still_stays m z (guarded fi o is at k) = guarded fi o is at (still_field fi z o k)
-    still_stays m z (element fi o owned there at k) =
-        element fi o owned (still_object o there) at (still_element fi z o k)
+    still_stays m z (element fi o owned there at k) = element fi o owned (still_object o there) at (still_element fi z o k)
     still_stays m z (frozen_static fi is at) = frozen_static fi is at
     still_stays m z (guarded_static fi is on at) = guarded_static fi is on at

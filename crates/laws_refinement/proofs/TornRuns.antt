@@ -1,6 +1,6 @@
 -- Once the lock word of an attempt is no longer as it was noted, each instruction that it begins takes one away of those ahead of its
 -- frames, whatever happens.
-use Rattle.std.proofs.Common.{◌≡◌, ◌≢◌, inl, inr, ℕ, zero, suc, ◌+◌, ◌≤◌, Bool, true, false, List, [], ◌∷◌, ◌++◌, map, drop, Option, Some, None, refl, sym, ap, subst, ◌∙◌, arith, ◌==◌, slice_get, slice_index, if◌then◌else◌}
+use Rattle.std.proofs.Common.{◌≡◌, ◌≢◌, inl, inr, ℕ, zero, suc, ◌+◌, ◌≤◌, Bool, true, false, List, [], ◌∷◌, ◌++◌, map, drop, Option, Some, None, refl, sym, ap, subst, ◌∙◌, arith, ◌==◌, slice_get, if◌then◌else◌}
 use Rattle.std.proofs.lemmas.Bool.{eqb-false, ne_eqb, Decides.Decides-eqb}
 use Rattle.lists.proofs.ListLaws.{same_some}
 use Rattle.jvm_types.specs.declared.program.Program.{Program}
@@ -86,10 +86,8 @@ module _ (may_do : InsideMayDo) (elements : ElementsInside) (safe : RunsAreSafe)
         let now : Thread = moved c x x.phase got in
         let k : IsSafe c s x = safe c cfg front t x marked width set there in
         let inside : Inside c x a = is_inside may_do elements c marked x a tries k.lawful.was k.lawful.structured in
-        let missed : wanted c x x.phase ≡ Some (Load a.monitor) → is_same a got ≡ false =
-        λ w.
-        let word : got ≡ slice_index s.words a.monitor = ap (found_by s.words) w in
-        ne_eqb got (word_of_lock (locks.Free a.noted)) (λ same. torn (sym word ∙ same)) in
+        let missed : wanted c x x.phase ≡ Some (Load a.monitor) → is_same a got ≡ false = λ w.
+        ne_eqb got (word_of_lock (locks.Free a.noted)) (λ same. torn (sym (ap (found_by s.words) w) ∙ same)) in
         let falls : Falls c.program a (left_of a x) (begun_in x.phase) now = late c marked x a tries x.phase got refl inside.known inside.based k.goes k.access.found missed in
         subst (λ (z : Thread). Leaves a (left_of a x) (begun_in z.phase) (event_of c s t (Some z))) (same_some (sym there ∙ e)) (now, got_when_set s.threads t x now there, falls)
 
@@ -126,19 +124,12 @@ module _ (may_do : InsideMayDo) (elements : ElementsInside) (safe : RunsAreSafe)
 
         by_attempt : (y : Thread) → slice_get r.threads t ≡ Some y → Falls c.program a (left_of a x) (begun_by s t h) y → (o : Option Attempt) → y.attempt ≡ o
             → ((b : Attempt) → y.attempt ≡ Some b → IsTorn (core c cfg (front ++ h ∷ [])).words b → begun_inside c (core c cfg (front ++ h ∷ [])) t more ≤ left_of b y) → begun_inside c s t (h ∷ more) ≤ left_of a x
-        by_attempt y e k None over on =
-            let none : begun_inside c r t more ≡ 0 = none_begun c r t more (ap attempt_in e ∙ over) in
-            let few = k.few in
-            rw opened (omega (arith, none, few))
+        by_attempt y e k None over on = rw opened (omega (arith, none_begun c r t more (ap attempt_in e ∙ over), k.few))
         by_attempt y e k (Some b) is on =
             let same = k.same b is in
-            let away : IsTorn (core c cfg (front ++ h ∷ [])).words b =
-            subst (λ (q : Core). IsTorn q.words b) (sym (one_more c cfg front h))
+            let away : IsTorn (core c cfg (front ++ h ∷ [])).words b = subst (λ (q : Core). IsTorn q.words b) (sym (one_more c cfg front h))
             (subst (λ (q : Attempt). IsTorn r.words q) (sym same.1) (never c cfg front h t a (record { marked = marked; width = width; settings = set; thread = x; there = there; tries = tries }) torn)) in
-            let later : begun_inside c r t more ≤ left_of b y = subst (λ (q : Core). begun_inside c q t more ≤ left_of b y) (one_more c cfg front h) (on b is away) in
-            let base : left_of b y ≡ left_of a y = ap (λ (q : Attempt). left_of q y) same.1 in
-            let fewer = k.fewer b is in
-            rw opened (omega (arith, later, base, fewer))
+            rw opened (omega (arith, subst (λ (q : Core). begun_inside c q t more ≤ left_of b y) (one_more c cfg front h) (on b is away), ap (λ (q : Attempt). left_of q y) same.1, k.fewer b is))
 
 -- ---- the whole
 
@@ -155,5 +146,4 @@ torn_runs_are_short may_do elements safe apart never c cfg hs more t n a k torn 
     let x : Thread = k.thread in
     let at : IsSafe c (core c cfg hs) x = safe c cfg hs t x k.marked k.width k.settings k.there in
     let whole = reached_ahead apart c n a reach at.lawful.was x.frames x.held (subst (λ (o : Option Attempt). AttemptStandsIn c at.lawful.was x.frames x.held o) k.tries at.lawful.structured.attempt) in
-    let few = each may_do elements safe c cfg k.marked k.width k.settings t never more hs x a k.there k.tries torn in
-    omega (arith, few, all_within c.program a.base x.phase x.frames n whole)
+    omega (arith, each may_do elements safe c cfg k.marked k.width k.settings t never more hs x a k.there k.tries torn, all_within c.program a.base x.phase x.frames n whole)

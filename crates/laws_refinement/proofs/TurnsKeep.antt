@@ -27,15 +27,13 @@ with_threads s xs = record s { threads = xs }
 
 -- the threads behind it, where the number of the part is known
 begun : (p : Program) (x : Thread) (workers : List Thread) (n : ℕ) → may_begin (x ∷ workers) ≡ true → x.part ≡ n → part_begins p n x workers ≡ next_threads p (x ∷ workers)
-begun p x workers n may e =
-    ap (λ (k : ℕ). part_begins p k x workers) (sym e) ∙ sym (ap (λ (b : Bool). if b then part_begins p x.part x workers else x ∷ workers) may)
+begun p x workers n may e = ap (λ (k : ℕ). part_begins p k x workers) (sym e) ∙ sym (ap (λ (b : Bool). if b then part_begins p x.part x workers else x ∷ workers) may)
 
 workers_begin : (c : MarkedProgram) (s : Core) → IsAlone (λ n. n ≡ 0) s → lives s 0 ≡ false → may_begin s.threads ≡ true → IsWaiting (next c s)
 workers_begin c s h dead may = (elim s.threads as (λ (xs : List Thread). PartIs (λ n. n ≡ 0) (with_threads s xs) → lives (with_threads s xs) 0 ≡ false → may_begin xs ≡ true → IsWaiting (next c (with_threads s xs))) [
   | [] ↦ λ part dead may. absurd (cc)
   | x ∷ workers ↦ λ part dead may.
-      subst (λ (ys : List Thread). IsWaiting (with_threads s ys)) (begun c.program x workers 0 may (part x refl))
-      (record { part = λ y e. ap part_of (sym e); first = dead })
+      subst (λ (ys : List Thread). IsWaiting (with_threads s ys)) (begun c.program x workers 0 may (part x refl)) (record { part = λ y e. ap part_of (sym e); first = dead })
 ]) h.part dead may
 
 done_begins : (c : MarkedProgram) (s : Core) → IsWaiting s → NoWorkerLives s → may_begin s.threads ≡ true → IsAlone (λ n. 2 ≤ n) (next c s)
@@ -66,8 +64,7 @@ none_live s e u = elim (cases_Bool (nat_lt u (length s.threads))) [
       let one : nat_le 1 (suc u) ≡ true = grind (arith, nat_tests) in
       let next : 1 + u ≡ suc u = omega arith in
       ap (λ (b : Bool). b && lives s (suc u)) (sym one)
-      ∙ ap (λ (t : ℕ). nat_le 1 t && lives s t) (sym next)
-      ∙ none_passes (λ t. nat_le 1 t && lives s t) 1 (length s.threads) u e (grind (arith, nat_tests, h))
+      ∙ ap (λ (t : ℕ). nat_le 1 t && lives s t) (sym next) ∙ none_passes (λ t. nat_le 1 t && lives s t) 1 (length s.threads) u e (grind (arith, nat_tests, h))
   | inr h ↦ ap is_live_thread (slice_get_past s.threads (suc u) (grind (arith, nat_tests, h)))
 ]
 
@@ -82,9 +79,8 @@ none_after [] part = refl
 none_after (x ∷ workers) part = by_part x.part (part x refl)
   where
     by_part : (n : ℕ) → 2 ≤ n → may_begin_by n x.phase workers ≡ false
-    by_part zero two = absurd (omega (arith, two))
-    by_part (suc zero) two = absurd (omega (arith, two))
     by_part (suc (suc n)) two = refl
+    by_part n two = absurd (omega (arith, two))
 
 -- ---- the turns of each stage
 
@@ -99,8 +95,7 @@ module _ (given : GivenIsKept) (c : MarkedProgram) (s : Core) where
 
   ordered_fits : (order : List ℕ) → IsWaiting s → TurnFits c s (ordered s order)
   ordered_fits [] h = round_fits 1 h
-  ordered_fits (t ∷ order) h =
-      (elim (is_live_worker s t) as (λ (b : Bool). TurnFits c s (ordered s order) → TurnFits c s (if b then turn_of (Of t) (Ordered order) else ordered s order))
+  ordered_fits (t ∷ order) h = (elim (is_live_worker s t) as (λ (b : Bool). TurnFits c s (ordered s order) → TurnFits c s (if b then turn_of (Of t) (Ordered order) else ordered s order))
       [ true ↦ λ rest. event_waits given c s t h | false ↦ λ rest. rest ]) (ordered_fits order h)
 
   pub turn_fits : (stage : Stage) → StageFits stage s → TurnFits c s (turn_at stage s)

@@ -31,12 +31,6 @@ pub record IsWhole (p : Program) (q : Plain) (t : ℕ) (x : Thread) (a : Attempt
   pub instructions : count_along p (run_at t) (steps_of t (section_acts d)) q ≡ d.pending
   pub sections : count_along p (take_at t) (steps_of t (section_acts d)) q ≡ 1
 
-after_none : (first rest last : ℕ) → first ≡ 0 → rest + 0 ≡ 0 + last → first + rest ≡ last
-after_none first rest last e f = omega (arith, e, f)
-
-after_one : (first rest : ℕ) → first ≡ 1 → rest ≡ 0 → first + rest ≡ 1
-after_one first rest e f = omega (arith, e, f)
-
 -- where the plain thread z of an attempt on a free monitor comes by what is due
 pub record Section : Type 0 where
   pub p : Program
@@ -69,12 +63,10 @@ module _ (section : Section) where
 
   enters : plain_step p q (record { thread = t; act = acts.Enter }) ≡ Some inside
   enters =
-      let now : PlainThread = record z { status = plain.Run } in
-      let same : now ≡ first.thread = λ i. record { frames = fits.frames i; status = plain.Run; roots = fits.roots i; ended = z.ended } in
+      let same : (record z { status = plain.Run }) ≡ first.thread = λ i. record { frames = fits.frames i; status = plain.Run; roots = fits.roots i; ended = z.ended } in
       ap (step_of p q t acts.Enter) here
       ∙ ap (step_at p q t z acts.Enter) fits.status
-      ∙ ap (plain_entered q t a.monitor z) free
-      ∙ ap (λ (w : PlainThread). Some (stands_as q t a.monitor (record { thread = w; depth = 1; begun = 0 }))) same
+      ∙ ap (plain_entered q t a.monitor z) free ∙ ap (λ (w : PlainThread). Some (stands_as q t a.monitor (record { thread = w; depth = 1; begun = 0 }))) same
 
   -- ---- what is due
 
@@ -107,20 +99,13 @@ module _ (section : Section) where
 
     pub whole : IsWhole p q t x a was d z.ended o
     whole =
-        let to : plain_step p q (record { thread = t; act = acts.Enter }) ≡ Some inside = enters in
         let no_runs : count_along p (run_at t) (steps_of t (acts.Exit ∷ [])) last ≡ 0 = none_along p (run_at t) t (acts.Exit ∷ []) last (λ r. not_run t r acts.Exit refl, tt) in
         let no_takes : count_along p (take_at t) (steps_of t (acts.Exit ∷ [])) last ≡ 0 = none_along p (take_at t) t (acts.Exit ∷ []) last (λ r. not_taken t r acts.Exit refl, tt) in
         record {
-          run = ap (λ (r : Option Plain). option_and_then (λ v. plain_run p v (steps_of t (d.due ++ acts.Exit ∷ []))) r) to
-              ∙ plays.run
-              ∙ exits_it
-              ∙ ap (λ (ts : List PlainThread). Some (record q { holdings = holdings_behind q.holdings a.monitor t a.inner; threads = ts })) threads_are;
-          instructions = ap (λ (r : Option Plain). run_at t q (record { thread = t; act = acts.Enter }) + count_from (count_along p (run_at t) (steps_of t (d.due ++ acts.Exit ∷ []))) r) to
-              ∙ after_none (run_at t q (record { thread = t; act = acts.Enter })) (count_along p (run_at t) (steps_of t (d.due ++ acts.Exit ∷ [])) inside) d.pending (not_run t q acts.Enter refl)
-              (plays.runs ∙ ap (λ (n : ℕ). n + present.begun) no_runs
-              ∙ ap (λ (phase : Phase). 0 + begun_and_done phase d.pending) leaves);
-          sections = ap (λ (r : Option Plain). take_at t q (record { thread = t; act = acts.Enter }) + count_from (count_along p (take_at t) (steps_of t (d.due ++ acts.Exit ∷ []))) r) to
-              ∙ after_one (take_at t q (record { thread = t; act = acts.Enter })) (count_along p (take_at t) (steps_of t (d.due ++ acts.Exit ∷ [])) inside)
-              (did_enter t a.monitor q z here fits.status ∙ ap (λ (h : Option Holding). one_if (is_free h)) free)
-              (plays.takes ∙ no_takes);
+          run = ap (λ (r : Option Plain). option_and_then (λ v. plain_run p v (steps_of t (d.due ++ acts.Exit ∷ []))) r) enters
+              ∙ plays.run ∙ exits_it ∙ ap (λ (ts : List PlainThread). Some (record q { holdings = holdings_behind q.holdings a.monitor t a.inner; threads = ts })) threads_are;
+          instructions = ap (λ (r : Option Plain). run_at t q (record { thread = t; act = acts.Enter }) + count_from (count_along p (run_at t) (steps_of t (d.due ++ acts.Exit ∷ []))) r) enters
+              ∙ omega (arith, not_run t q acts.Enter refl, plays.runs, no_runs, ap (λ (phase : Phase). begun_and_done phase d.pending) leaves);
+          sections = ap (λ (r : Option Plain). take_at t q (record { thread = t; act = acts.Enter }) + count_from (count_along p (take_at t) (steps_of t (d.due ++ acts.Exit ∷ []))) r) enters
+              ∙ omega (arith, did_enter t a.monitor q z here fits.status ∙ ap (λ (h : Option Holding). one_if (is_free h)) free, plays.takes ∙ no_takes);
         }

@@ -1,7 +1,7 @@
 -- What an event inside an attempt makes of it: the thread goes on in the same one, or is about to enter again, or goes on behind
 -- the section, and is then at no entry.
 use Rattle.std.proofs.Common.{◌≡◌, ℕ, zero, suc, ◌+◌, nat_lt, Bool, true, false, cond, drop, List, [], ◌∷◌, Option, Some, None, refl, sym, ap, ◌∙◌, subst, option_map}
-use Rattle.jvm_types.specs.declared.{outcome.Thrown.{Thrown}, program.Program.Program}
+use Rattle.jvm_types.specs.declared.{program.Program.Program}
 use Rattle.checked_program.{specs.MarkedProgram.MarkedProgram, proofs.FilledTags.some_fewer}
 use Rattle.machine_types.specs.{Elision.{may_try, is_same, is_checked, put_back, fails, elided}, Events.{element_made, moved}, Frames.{Top, top_of, effect_at, returned, went_on}}
 use Rattle.machine_types.specs.{Going.{with_phase, goes_on, goes_on_if, goes_after, root_over}, History.{Fate, GoesOn, Fails, Finishes, fate, fate_by, run_fate, leave_fate}}
@@ -28,15 +28,11 @@ module _ (s : Thread) where
   back_elsewhere [] = elim s.roots as (λ (roots : List ℕ). is_entering (root_over roots) ≡ false) [ [] ↦ refl | number ∷ roots ↦ refl ]
   back_elsewhere (f ∷ fs) = in_run (nat_lt s.counts.instructions s.cfg.steps)
 
-  unwound_elsewhere : (x : ℕ) (class : Thrown) (fs : List Frame) → IsElsewhere (goes_on s (unwound x class fs))
-  unwound_elsewhere x class [] = refl
-  unwound_elsewhere x class (f ∷ fs) = refl
-
   after_elsewhere : (p : Program) (fs : List Frame) (a : After) → IsElsewhere s → IsElsewhere (goes_on_if s (after p fs a))
   after_elsewhere p fs Next k = in_run (nat_lt s.counts.instructions s.cfg.steps)
   after_elsewhere p fs Return k = elim (top_of p fs) as (λ (top : Option Top). IsElsewhere (goes_on_if s (option_map (λ at. back (returned p at)) top)))
       [ None ↦ k | Some at ↦ back_elsewhere (returned p at) ]
-  after_elsewhere p fs (Unwind x class) k = unwound_elsewhere x class (drop 1 fs)
+  after_elsewhere p fs (Unwind x class) k = elim (drop 1 fs) as (λ (fs : List Frame). IsElsewhere (goes_on s (unwound x class fs))) [ [] ↦ refl | f ∷ fs ↦ refl ]
 
 -- ---- a thread that goes on counts no failure
 
@@ -64,8 +60,7 @@ module _ (c : MarkedProgram) (x : Thread) (a : Attempt) (tries : x.attempt ≡ S
 
   -- an exit, which may be the last
   finishes_inside : (e : After) (inner : ℕ) → is_entering x.phase ≡ false → HasFate x (finishes c.program x e a inner got) a (cond (nat_lt 0 inner) GoesOn (fate_by (is_same a got) Finishes))
-  finishes_inside e zero k =
-      elim (is_same a got) as (λ (b : Bool). HasFate x (cond b (goes_after c.program (elided x) e) (fails x a)) a (fate_by b Finishes))
+  finishes_inside e zero k = elim (is_same a got) as (λ (b : Bool). HasFate x (cond b (goes_after c.program (elided x) e) (fails x a)) a (fate_by b Finishes))
       [ true ↦ (goes_attempt (elided x) (after c.program x.frames e), after_elsewhere (elided x) c.program x.frames e k, goes_failed (elided x) (after c.program x.frames e)) | false ↦ put_back_to x refl refl refl refl ]
   finishes_inside e (suc inner) k =
       let z : Thread = record x { attempt = Some (record a { inner = inner }) } in
@@ -74,8 +69,7 @@ module _ (c : MarkedProgram) (x : Thread) (a : Attempt) (tries : x.attempt ≡ S
   moves_at : (phase : Phase) → x.phase ≡ phase → KnownInside c x a phase → HasFate x (moved c x phase got) a (fate c x a phase got)
   moves_at phases.Run e k = subst (λ (o : Option Top). HasFate x (ran c.program x o got) a (run_fate c a o got)) (sym k.found) (instructed_inside k.at (effect_at c.program k.at) k.may)
   moves_at (phases.Element word stored) e k =
-      let o : Option Onward = option_map (λ at. Running
-      (went_on c.program at (element_made stored got))) (top_of c.program x.frames) in
+      let o : Option Onward = option_map (λ at. Running (went_on c.program at (element_made stored got))) (top_of c.program x.frames) in
       same (goes_on_if x o) (goes_attempt x o) (goes_failed x o)
   moves_at (phases.Throw r class) e k =
       let o : Option Onward = dispatched c.program r class x.frames in
