@@ -1,5 +1,5 @@
 -- The exit of a monitor over words that others may change.
-use Rattle.std.proofs.Common.{◌≡◌, ◌≢◌, ℕ, zero, suc, Bool, true, false, cond, Option, Some, None, refl, sym, nat_lt}
+use Rattle.std.proofs.Common.{◌≡◌, ◌≢◌, ℕ, zero, suc, Bool, true, false, cond, Some, None, refl, sym, nat_lt}
 use Rattle.std.proofs.lemmas.Bool.{eq-eqb}
 use Rattle.lists.proofs.ListLaws.{same_some}
 use Rattle.checked_program.specs.MarkedProgram.{MarkedProgram}
