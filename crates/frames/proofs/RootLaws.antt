@@ -1,5 +1,5 @@
 -- Lists of numbers of methods.
-use Rattle.std.proofs.Common.{◌≡◌, ℕ, zero, suc, ◌+◌, ◌-◌, ◌<◌, ◌≤◌, Bool, true, false, List, [], ◌∷◌, ◌++◌, length, take, drop, Some, None, refl, sym, ap, ◌∙◌, arith, add-one, append_assoc, length-append, slice_get, if◌then◌else◌}
+use Rattle.std.proofs.Common.{◌≡◌, ℕ, suc, ◌+◌, ◌-◌, ◌<◌, ◌≤◌, Bool, true, false, List, [], ◌∷◌, ◌++◌, length, take, drop, Some, refl, sym, ap, arith, add-one, append_assoc, length-append, slice_get, if◌then◌else◌}
 use Rattle.std.proofs.lemmas.List.{drop-drop, drop-take}
 use Rattle.jvm_types.{specs.declared.program.MethodInfo.MethodInfo, proofs.EachAfter.drop_got}
 use Rattle.machine_types.specs.Parts.{numbers_of}

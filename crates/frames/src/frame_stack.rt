@@ -311,7 +311,13 @@ impl FrameStack {
         let at = self.free - (stack + locals);
         let count = argument_count(m);
         let gap = self.top.gap;
-        lay(&mut self.slots, self.free + gap, count, at + stack, locals);
+        lay(
+            &mut self.slots[..],
+            self.free + gap,
+            count,
+            at + stack,
+            locals,
+        );
         let receiver = receiver_at(self.slots.as_slice(), at + stack, is_static(m.flags));
         self.top.gap = gap + count;
         self.heads[self.start] = self.top;
@@ -338,7 +344,7 @@ impl FrameStack {
         let stack = m.max_stack as usize;
         let locals = m.max_locals as usize;
         let at = self.free - (stack + locals);
-        lay_root(&mut self.slots, t, m.args.len(), at + stack, locals);
+        lay_root(&mut self.slots[..], t, m.args.len(), at + stack, locals);
         let receiver = receiver_at(self.slots.as_slice(), at + stack, is_static(m.flags));
         self.start -= 1;
         self.top = Head {

@@ -4,13 +4,13 @@ ghost use Rattle.std.specs.Prelude.{◌≡◌, ◌+◌, ◌-◌, ◌≤◌, ◌<
 ghost use Rattle.std.specs.Prelude.{reverse, replicate, nat_lt, slice_index, false, if◌then◌else◌};
 
 /// 0 in the places from `to` on, but for the first ones, up to `limit` of them.
-pub fn zero_behind(slots: &mut Vec<u64>, to: usize, first: usize, limit: usize)
-    requires inside { to + limit ≤ length slots.old.items }
+pub fn zero_behind(slots: &mut [u64], to: usize, first: usize, limit: usize)
+    requires inside { to + limit ≤ length slots.old }
     requires within { first ≤ limit }
-    ensures length { length slots.new.items ≡ length slots.old.items }
-    ensures above { drop (to + limit) slots.new.items ≡ drop (to + limit) slots.old.items }
-    ensures laid { take limit (drop to slots.new.items)
-        ≡ take first (drop to slots.old.items) ++ replicate (limit - first) 0 }
+    ensures length { length slots.new ≡ length slots.old }
+    ensures above { drop (to + limit) slots.new ≡ drop (to + limit) slots.old }
+    ensures laid { take limit (drop to slots.new)
+        ≡ take first (drop to slots.old) ++ replicate (limit - first) 0 }
 {
     for i in first..limit {
         slots[to + i] = 0;
@@ -19,12 +19,12 @@ pub fn zero_behind(slots: &mut Vec<u64>, to: usize, first: usize, limit: usize)
 
 /// The number of its thread, where a root takes an argument, and 0 in the places behind it, up to
 /// `limit` of them.
-pub fn lay_root(slots: &mut Vec<u64>, number: u8, args: usize, to: usize, limit: usize)
-    requires inside { to + limit ≤ length slots.old.items }
+pub fn lay_root(slots: &mut [u64], number: u8, args: usize, to: usize, limit: usize)
+    requires inside { to + limit ≤ length slots.old }
     requires fits { args ≤ limit }
-    ensures length { length slots.new.items ≡ length slots.old.items }
-    ensures above { drop (to + limit) slots.new.items ≡ drop (to + limit) slots.old.items }
-    ensures laid { take limit (drop to slots.new.items) ≡
+    ensures length { length slots.new ≡ length slots.old }
+    ensures above { drop (to + limit) slots.new ≡ drop (to + limit) slots.old }
+    ensures laid { take limit (drop to slots.new) ≡
         (if nat_lt 0 args then number ∷ [] else [])
         ++ replicate (limit - length (if nat_lt 0 args then number ∷ [] else [])) 0 }
 {
@@ -38,14 +38,14 @@ pub fn lay_root(slots: &mut Vec<u64>, number: u8, args: usize, to: usize, limit:
 
 /// The `count` places from `from` on are copied in reverse order to those from `to` on, and 0s
 /// behind them up to `limit`.
-pub fn lay(slots: &mut Vec<u64>, from: usize, count: usize, to: usize, limit: usize)
+pub fn lay(slots: &mut [u64], from: usize, count: usize, to: usize, limit: usize)
     requires below { to + limit ≤ from }
-    requires inside { from + count ≤ length slots.old.items }
+    requires inside { from + count ≤ length slots.old }
     requires fits { count ≤ limit }
-    ensures length { length slots.new.items ≡ length slots.old.items }
-    ensures above { drop (to + limit) slots.new.items ≡ drop (to + limit) slots.old.items }
-    ensures laid { take limit (drop to slots.new.items)
-        ≡ reverse (take count (drop from slots.old.items)) ++ replicate (limit - count) 0 }
+    ensures length { length slots.new ≡ length slots.old }
+    ensures above { drop (to + limit) slots.new ≡ drop (to + limit) slots.old }
+    ensures laid { take limit (drop to slots.new)
+        ≡ reverse (take count (drop from slots.old)) ++ replicate (limit - count) 0 }
 {
     for i in 0..count {
         slots[to + i] = slots[from + (count - 1 - i)];

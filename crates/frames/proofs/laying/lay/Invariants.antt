@@ -3,7 +3,7 @@ use Rattle.frames.proofs.laying.lay.Given as goal
 
 abbrev pub invariant-loop-i : goal.invariant-loop-i
 invariant-loop-i l = record {
-  long : length l.slots.items ≡ length l.fn.slots.items;
-  above : drop (l.to + l.limit) l.slots.items ≡ drop (l.to + l.limit) l.fn.slots.items;
-  laid : take l.i (drop l.to l.slots.items) ≡ take l.i (reverse (take l.count (drop l.from l.fn.slots.items)));
+  long : length l.slots ≡ length l.fn.slots;
+  above : drop (l.to + l.limit) l.slots ≡ drop (l.to + l.limit) l.fn.slots;
+  laid : take l.i (drop l.to l.slots) ≡ take l.i (reverse (take l.count (drop l.from l.fn.slots)));
 }
