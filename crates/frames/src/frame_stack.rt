@@ -358,6 +358,27 @@ impl FrameStack {
         self.free = at;
     }
 
+    /// The frame of a method that the top frame calls.
+    #[inline(always)]
+    pub fn push_call(&mut self, number: u32, m: &MethodInfo) -> Result<(), StackOverflow>
+        requires method { slice_get self.old.program.methods number ≡ Some m.now }
+        requires fits { argument_count m.now ≤ m.now.max_locals }
+        requires frame { 0 < length self.old.frames }
+        requires given { argument_count m.now ≤ length (top self.old.frames).stack }
+        ensures ok { OnOk result (self.new ≡ record self.old {
+          frames = frames_of_call number m.now (top self.old.frames) (below self.old.frames);
+        }) }
+        ensures room { OnOk result (has_room self.old.program self.old.frames m.now ≡ true) }
+        ensures err { OnErr result (self.new ≡ self.old) }
+        ensures full { OnErr result (has_room self.old.program self.old.frames m.now ≡ false) }
+    {
+        if !self.has_room(m) {
+            return Err(StackOverflow);
+        }
+        self.push_called(number, m);
+        Ok(())
+    }
+
     /// A frame of the method: of a root of thread `t`, where there is none, else of a call.
     #[inline(always)]
     pub fn push_frame(&mut self, number: u32, m: &MethodInfo, t: u8) -> Result<(), StackOverflow>
@@ -370,14 +391,13 @@ impl FrameStack {
         ensures err { OnErr result (self.new ≡ self.old) }
         ensures full { OnErr result (has_room self.old.program self.old.frames m.now ≡ false) }
     {
+        if self.depth() > 0 {
+            return self.push_call(number, m);
+        }
         if !self.has_room(m) {
             return Err(StackOverflow);
         }
-        if self.depth() == 0 {
-            self.push_root(number, m, t);
-        } else {
-            self.push_called(number, m);
-        }
+        self.push_root(number, m, t);
         Ok(())
     }
 }
