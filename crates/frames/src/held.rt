@@ -134,6 +134,7 @@ impl HeldList {
     }
 
     /// Drops the entry of a monitor, where it has one.
+    #[inline(always)]
     pub fn remove(&mut self, monitor: u32)
         ensures entries { self.new.entries ≡ without_held monitor self.old.entries }
         ensures places { self.old.places ≤ self.new.places }

@@ -369,6 +369,7 @@ impl ThreadState {
     }
 
     /// Drops the entry of a monitor, where it has one.
+    #[inline(always)]
     pub fn drop_held(&mut self, monitor: u32)
         ensures { self.new ≡ record self.old { held = without_held monitor self.old.held } }
     {
