@@ -83,11 +83,18 @@ fn is_marked_by(marks: &[SectionMark], method: u32, spot: Spot) -> bool
     false
 }
 
+/// So many marks are looked through without halving them first.
+const FEW: usize = 4;
+
 /// Whether a section of a program is marked 0.
 pub fn is_marked(p: &Checked, method: u32, spot: Spot) -> bool
     ensures { result ≡ is_marked p.now.marks method spot }
 {
     let marks = p.marks().as_slice();
-    let first = marks_before(marks, method, spot);
+    let first = if marks.len() <= FEW {
+        0
+    } else {
+        marks_before(marks, method, spot)
+    };
     is_marked_by(&marks[first..], method, spot)
 }
