@@ -155,7 +155,9 @@ verifying_instead V7 = again
 verifying_instead V8 = again
 
 abbrev pub tagging_instead : SRule → List ℕ
-tagging_instead S1 = structured
+tagging_instead S1 =
+    codes
+    "a synchronized block or method, as javac writes it; a method that makes the object, where a loop locks it and makes it anew"
 tagging_instead S2 = structured
 tagging_instead S3 = structured
 tagging_instead S4 = structured

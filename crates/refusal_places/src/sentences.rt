@@ -186,7 +186,11 @@ fn tagging_instead(rule: SRule) -> &'static str
     ensures { result.now ≡ the_tagging_instead rule }
 {
     match rule {
-        SRule::S1 | SRule::S2 | SRule::S3 | SRule::S4 => STRUCTURED,
+        SRule::S1 => {
+            "a synchronized block or method, as javac writes it; a method that makes the object, \
+                where a loop locks it and makes it anew"
+        }
+        SRule::S2 | SRule::S3 | SRule::S4 => STRUCTURED,
     }
 }
 
